@@ -1,0 +1,3 @@
+pub mod Denotation
+pub mod Spelling
+pub mod Standing
