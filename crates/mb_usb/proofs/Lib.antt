@@ -1,3 +1,7 @@
 mod Events
 mod Examples
+mod PacketPlaces
+mod Places
 mod RecordingExamples
+pub mod RunningLemmas
+pub mod UsbLaw
