@@ -5,3 +5,4 @@ mod Places
 mod RecordingExamples
 pub mod RunningLemmas
 pub mod UsbLaw
+pub mod WriterLemmas
