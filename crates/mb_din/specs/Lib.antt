@@ -1,1 +1,4 @@
+pub mod Reader
 pub mod Recording
+pub mod State
+pub mod Turn
