@@ -1,0 +1,6 @@
+//! One face over the carriers. From here up a recording is read and written by its spec, and no packet is named.
+#![tactic(auto)]
+
+mod spec;
+
+pub use spec::Spec;
