@@ -1,2 +1,3 @@
+pub mod AppendedLemmas
 mod Examples
 pub mod StandingLemmas

@@ -1,5 +1,6 @@
 mod Events
 mod Examples
+pub mod Loops
 mod PacketPlaces
 mod Places
 mod RecordingExamples
