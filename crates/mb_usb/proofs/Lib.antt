@@ -1,0 +1,3 @@
+mod Events
+mod Examples
+mod RecordingExamples
