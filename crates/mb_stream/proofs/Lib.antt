@@ -1,2 +1,5 @@
 mod Examples
 pub mod StandingLemmas
+pub mod OrderLemmas
+pub mod GroupsLemmas
+pub mod NewsLaw
