@@ -1,3 +1,8 @@
 mod Events
 mod Examples
+mod PacketPlaces
+mod Places
 mod RecordingExamples
+pub mod RunningLemmas
+pub mod UsbLaw
+pub mod WriterLemmas
