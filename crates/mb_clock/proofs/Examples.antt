@@ -1,6 +1,6 @@
 -- The definitions compute.
-use Rattle.std.proofs.Common.{◌≡◌, ℕ, List, [], ◌∷◌, refl}
-use Rattle.mb_clock.specs.Stamps.{Packet, all_bits}
+use Rattle.std.proofs.Common.{◌≡◌, [], ◌∷◌, refl}
+use Rattle.mb_clock.specs.Stamps.{all_bits}
 use Rattle.mb_clock.specs.Moments.{moments}
 
 -- the first stamp has its 13 bits as its moment

@@ -1,7 +1,7 @@
 -- Each moment is the least that the one before and the stamp allow.
-use Rattle.std.proofs.Common.{◌≡◌, ℕ, ◌+◌, ◌*◌, ◌-◌, ◌%◌, ◌<◌, ◌≤◌, List, [], ◌∷◌, ◌++◌, refl, sym, ◌∙◌, ap, subst, arith}
+use Rattle.std.proofs.Common.{◌≡◌, ℕ, ◌<◌, List, [], ◌∷◌, ◌++◌, refl, ap, subst, arith}
 use Rattle.mb_clock.specs.Stamps.{Packet, AreSevens, ArePackets, last_or, last_bits, with_stamp, bits_behind, packet_bits, all_bits}
-use Rattle.mb_clock.specs.Moments.{IsNextMoment, AreMoments, next_moment, moments_from, moments}
+use Rattle.mb_clock.specs.Moments.{IsNextMoment, AreMoments, next_moment, moments_from}
 
 -- a list of 13 bits each
 abbrev pub AreBits : List ℕ → Type 0

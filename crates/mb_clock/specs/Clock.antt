@@ -5,8 +5,8 @@
 --   clock_of ps           what is to be kept of these packets, the last of which is under way
 --   begun c high          a packet begins
 --   stamped c low         a stamp follows
-use Rattle.std.specs.Prelude.{◌≡◌, ℕ, ◌+◌, ◌*◌, ◌%◌, ◌<◌, nat_lt, if◌then◌else◌, List, [], ◌∷◌, ◌++◌}
-use Rattle.mb_clock.specs.Stamps.{Packet, last_or, last_upper, last_bits, with_stamp}
+use Rattle.std.specs.Prelude.{ℕ, ◌+◌, ◌*◌, ◌%◌, nat_lt, if◌then◌else◌, List, []}
+use Rattle.mb_clock.specs.Stamps.{Packet, last_or, last_upper}
 use Rattle.mb_clock.specs.Moments.{next_moment, moments}
 
 pub record Clock : Type 0 where

@@ -1,6 +1,6 @@
 -- The definitions compute.
-use Rattle.std.proofs.Common.{◌≡◌, ℕ, List, [], ◌∷◌, refl}
-use Rattle.mb_frames.specs.Frames.{FramePart, FrameBegin, FrameByte, FrameEnd, parts}
+use Rattle.std.proofs.Common.{◌≡◌, [], ◌∷◌, refl}
+use Rattle.mb_frames.specs.Frames.{FrameBegin, FrameByte, FrameEnd, parts}
 
 whole : parts (0 ∷ 2 ∷ 7 ∷ 8 ∷ []) ≡ FrameBegin 2 ∷ FrameByte 7 ∷ FrameByte 8 ∷ FrameEnd ∷ []
 whole = refl

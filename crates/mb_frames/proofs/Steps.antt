@@ -1,7 +1,7 @@
 -- What each step of the reader takes and tells.
-use Rattle.std.proofs.Common.{◌≡◌, ℕ, zero, suc, ◌+◌, ◌*◌, ◌-◌, ◌<◌, ◌≤◌, Bool, true, false, List, [], ◌∷◌, ◌++◌, length, Option, Some, None, map, refl, sym, ◌∙◌, ap, subst, arith, append_assoc, append-nil, length-append, Bor}
+use Rattle.std.proofs.Common.{◌≡◌, ℕ, zero, suc, ◌+◌, ◌*◌, ◌-◌, ◌≤◌, List, [], ◌∷◌, ◌++◌, length, Option, Some, None, map, refl, sym, ◌∙◌, ap, arith, append_assoc, Bor}
 use Rattle.mb_frames.specs.Frames.{FramePart, FrameBegin, FrameByte, FrameEnd, parts, rest_parts}
-use Rattle.mb_frames.specs.Reading.{from, told, Takes, Stands, IsWhole, is_partial}
+use Rattle.mb_frames.specs.Reading.{from, told, Takes, Stands}
 use Rattle.mb_frames.specs.declared.frames.Place.{Place}
 use Rattle.mb_frames.specs.declared.frames.Place.TheVariants.{Between, High, Within}
 use Rattle.mb_frames.specs.declared.frames.Part.{Part}

@@ -10,7 +10,7 @@
 --   owed place                   1 where a frame's end is to be told
 --   is_partial place             whether the reader stands inside a frame
 --   IsWhole bytes                whole frames: what follows is read as if it stood alone
-use Rattle.std.specs.Prelude.{◌≡◌, ◌≢◌, ℕ, zero, suc, ◌+◌, ◌*◌, Bool, true, false, List, [], ◌∷◌, ◌++◌, Option, Some, None, map, take, ◌==◌, not, if◌then◌else◌}
+use Rattle.std.specs.Prelude.{◌≡◌, ◌≢◌, ℕ, ◌+◌, ◌*◌, Bool, true, false, List, [], ◌∷◌, ◌++◌, Option, Some, None, map, take, ◌==◌, not, if◌then◌else◌}
 use Rattle.mb_frames.specs.Frames.{FramePart, FrameBegin, FrameByte, FrameEnd, parts, rest_parts}
 use Rattle.mb_frames.specs.declared.frames.Place.{Place}
 use Rattle.mb_frames.specs.declared.frames.Place.TheVariants.{Between, High, Within}

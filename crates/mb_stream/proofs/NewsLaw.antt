@@ -4,16 +4,15 @@
 --   so_far-news          the reading is the news of each entry in turn
 --   last_of-after        the last group is the group behind all entries
 --   so_far-after         the same by the entries before
-use Rattle.std.proofs.Common.{◌≡◌, ℕ, suc, ◌+◌, ◌<◌, ◌≤◌, inl, inr, Bool, true, false, ◌==◌, ◌||◌, nat_lt, if◌then◌else◌, List, [], ◌∷◌, ◌++◌, map, Option, Some, None, refl, sym, ◌∙◌, ap, subst, arith, append_assoc, append-nil}
-use Rattle.std.specs.List.{flat_map}
+use Rattle.std.proofs.Common.{◌≡◌, ℕ, ◌+◌, ◌≤◌, inl, Bool, true, false, ◌==◌, ◌||◌, if◌then◌else◌, List, [], ◌∷◌, ◌++◌, map, Option, Some, None, refl, sym, ◌∙◌, ap, arith, append_assoc, append-nil}
 use Rattle.mb_message.specs.declared.note.NoteKind.TheVariants.{StrayEnd, Undefined}
 use Rattle.mb_message.specs.Signs.{ShortSign, OpenSign, EndSign, AbortSign}
 use Rattle.mb_message.specs.Bytes.{is_data, is_realtime, is_channel, data_length}
 use Rattle.mb_stream.specs.Payload.{Spot, Entry, Heard, Silent, plain, realtime}
-use Rattle.mb_stream.specs.Groups.{Group, no_group, silent, begun, longer, groups_from, groups, last_group, last_of, is_sysex}
+use Rattle.mb_stream.specs.Groups.{Group, no_group, silent, begun, longer, groups_from, last_group, last_of, is_sysex}
 use Rattle.mb_stream.specs.Told.{Known, known, Marks, Notes, stray, sysex_byte, one_of, two_of, odd_one, status_told, own_told, data_told, group_told, begun_at, truncated_at, truncated, sysex_ended, ended, followed, groups_told, realtime_known}
 use Rattle.mb_stream.specs.Order.{in_order}
-use Rattle.mb_stream.specs.Reading.{payload_told, so_far}
+use Rattle.mb_stream.specs.Reading.{so_far}
 use Rattle.mb_stream.specs.Working.{pair_news, channel_news, first_one_news, first_two_news, common_news, data_news_by, data_news, news, entry_news, behind, news_from, group_after, news_after, RisesFrom}
 use Rattle.mb_stream.proofs.OrderLemmas.{Each, Each-append, Each-implies, Late, Climb, Climb-append, Climb-low, in_order-climb}
 use Rattle.mb_stream.proofs.GroupsLemmas.{data_told-more, data_told-nil}

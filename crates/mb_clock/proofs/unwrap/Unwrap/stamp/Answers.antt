@@ -1,6 +1,6 @@
-use Rattle.std.proofs.Common.{sym, ◌∙◌, ap, rules, arith}
+use Rattle.std.proofs.Common.{sym, ◌∙◌, ap, arith}
 use Rattle.std.proofs.lemmas.Grind.{common_steps}
-use Rattle.mb_clock.specs.Clock.{stamped, clock_of}
+use Rattle.mb_clock.specs.Clock.{stamped}
 use Rattle.mb_clock.proofs.ClockLemmas.{clock_of-stamp}
 use Rattle.mb_clock.proofs.unwrap.Unwrap.stamp.Goals as goal
 

@@ -1,4 +1,4 @@
-use Rattle.std.proofs.Common.{sym, ◌∙◌, arith}
+use Rattle.std.proofs.Common.{arith}
 use Rattle.mb_frames.proofs.Steps.{takes_low}
 use Rattle.mb_frames.proofs.frames.Frames.begin.Goals as goal
 

@@ -1,4 +1,4 @@
-use Rattle.std.proofs.Common.{sym, ◌∙◌, subst, ap}
+use Rattle.std.proofs.Common.{sym, ◌∙◌, subst}
 use Rattle.mb_frames.specs.Reading.{Stands}
 use Rattle.mb_frames.specs.declared.frames.Place.TheVariants.{Between, High, Within}
 use Rattle.mb_frames.proofs.Cuts.{whole_or_partial}
