@@ -1,0 +1,7 @@
+pub mod ByteKinds
+pub mod Late
+pub mod Machine
+pub mod SpelledStep
+pub mod ReadMarks
+pub mod SpelledMarks
+pub mod Suits
