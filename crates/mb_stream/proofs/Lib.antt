@@ -5,3 +5,4 @@ pub mod SpelledStep
 pub mod ReadMarks
 pub mod SpelledMarks
 pub mod Suits
+mod Examples

@@ -1,3 +1,9 @@
 pub mod Denotation
+pub mod Groups
+pub mod Order
+pub mod Payload
+pub mod Reading
 pub mod Spelling
 pub mod Standing
+pub mod Told
+pub mod Working
