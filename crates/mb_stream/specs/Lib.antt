@@ -1,3 +1,4 @@
+pub mod Appended
 pub mod Denotation
 pub mod Groups
 pub mod Order

@@ -1,0 +1,5 @@
+pub mod Held
+pub mod Packets
+pub mod Running
+pub mod Writer
+pub mod Written
