@@ -1,5 +1,6 @@
 pub mod ByteKinds
 pub mod Late
+pub mod Literal
 pub mod Machine
 pub mod SpelledStep
 pub mod ReadMarks
