@@ -7,3 +7,4 @@ pub mod ReadMarks
 pub mod SpelledMarks
 pub mod Suits
 mod Examples
+pub mod StandingLemmas

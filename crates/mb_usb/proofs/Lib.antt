@@ -1,2 +1,3 @@
 mod Events
 mod Examples
+mod RecordingExamples
