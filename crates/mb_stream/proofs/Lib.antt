@@ -1,6 +1,7 @@
 pub mod ByteKinds
 pub mod Late
 pub mod Literal
+pub mod LiteralMarks
 pub mod Machine
 pub mod SpelledStep
 pub mod ReadMarks

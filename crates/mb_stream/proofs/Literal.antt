@@ -11,6 +11,7 @@ use Rattle.mb_stream.specs.Told.{Told, Marks, Notes, Known, known, stray, sysex_
 use Rattle.mb_stream.specs.Reading.{sign_in, note_in, Remark}
 use Rattle.mb_stream.specs.Working.{pair_news, channel_news, first_one_news, first_two_news, common_news, data_news, data_news_by, news, behind}
 use Rattle.mb_stream.proofs.ByteKinds.{Need, One, Two, Kind, DataKind, ChannelKind, CommonKind, TuneKind, StartKind, EndKind, OtherKind, RtKind, OtherRtKind, kind, facts, Facts, is_data_kind, is_realtime_kind, is_rt_kind, is_channel_kind, is_start_kind, is_end_kind, is_tune_kind, is_other_kind, length_of_kind}
+use Rattle.mb_stream.proofs.Suits.{data_kind}
 use Rattle.mb_stream.proofs.Machine.{Reader, Rest, Waits, Ready, Begun, Inside, ends, tells, after, is_begun, is_inside, noted, at_data, after_data}
 
 -- a channel status with no data yet
@@ -123,9 +124,9 @@ data_under (Some s) own ds x =
 -- Statuses.
 
 -- what a group is to a status that follows
-record Followed (g : Group) (r : Reader) : Type 0 where
-  opened : is_sysex g ≡ is_inside r
-  unbegun : is_begun r ≡ false → begun_at g ≡ None
+pub record Followed (g : Group) (r : Reader) : Type 0 where
+  pub opened : is_sysex g ≡ is_inside r
+  pub unbegun : is_begun r ≡ false → begun_at g ≡ None
 
 abbrev begun_kind : Kind → Option Spot → List Spot → Option ℕ
 begun_kind k own ds = begun_by (length_of_kind k) (is_channel_kind k) own ds
@@ -192,7 +193,7 @@ inside_under : (status : Option ℕ) (own : Option Spot) (ds : List Spot) → is
 inside_under None own ds = refl
 inside_under (Some s) own ds = (facts s).is_start ∙ inside_by (kind s) s own ds
 
-followed : (g : Group) → Followed g (reader_of g)
+pub followed : (g : Group) → Followed g (reader_of g)
 followed g = record {
   opened = inside_under g.status g.own g.data_bytes;
   unbegun = unbegun_under g.status g.own g.data_bytes
@@ -331,17 +332,6 @@ realtime_by g x StartKind h m t = absurd (false≢true h)
 realtime_by g x EndKind h m t = absurd (false≢true h)
 realtime_by g x OtherKind h m t = absurd (false≢true h)
 
-kind_data : (k : Kind) → is_data_kind k ≡ true → k ≡ DataKind
-kind_data DataKind h = refl
-kind_data (ChannelKind n) h = absurd (false≢true h)
-kind_data (CommonKind n) h = absurd (false≢true h)
-kind_data TuneKind h = absurd (false≢true h)
-kind_data StartKind h = absurd (false≢true h)
-kind_data EndKind h = absurd (false≢true h)
-kind_data OtherKind h = absurd (false≢true h)
-kind_data RtKind h = absurd (false≢true h)
-kind_data OtherRtKind h = absurd (false≢true h)
-
 data_agrees : (g : Group) (x : Spot) → kind x.byte ≡ DataKind → Agrees (data_news g.status g.data_bytes x) (longer g x) (reader_of g) (kind x.byte) x.byte
 data_agrees g x e =
     let a : DataAgrees (data_news g.status g.data_bytes x) (reader_of (longer g x)) (reader_of g) x.byte = data_under g.status g.own g.data_bytes x in
@@ -367,7 +357,7 @@ byte-tells_by : (g : Group) (x : Spot) (rt da : Bool) → is_realtime x.byte ≡
       (if rt then g else (if da then longer g x else begun x)) (reader_of g) (kind x.byte) x.byte
 byte-tells_by g x true da er ed =
     realtime_by g x (kind x.byte) (sym (facts x.byte).is_realtime ∙ er) (facts x.byte).is_realtime_message er
-byte-tells_by g x false true er ed = data_agrees g x (kind_data (kind x.byte) (sym (facts x.byte).is_data ∙ ed))
+byte-tells_by g x false true er ed = data_agrees g x (data_kind (kind x.byte) (sym (facts x.byte).is_data ∙ ed))
 byte-tells_by g x false false er ed = status_agrees g x (sym (facts x.byte).is_data ∙ ed) (sym (facts x.byte).is_realtime ∙ er)
 
 pub byte-tells : (g : Group) (x : Spot) → Agrees (news g x) (behind g (Heard x)) (reader_of g) (kind x.byte) x.byte

@@ -6,6 +6,7 @@ use Rattle.std.proofs.lemmas.Bool.{and_parts, and_from, false≢true, eqb-true, 
 use Rattle.mb_message.specs.Bytes.{is_data, is_realtime_message, is_short, is_short_of_length}
 use Rattle.mb_message.specs.Signs.{Sign, ShortSign, RtSign, OpenSign, ByteSign, EndSign, AbortSign, suits_sign}
 use Rattle.mb_stream.specs.Standing.{standing, last_other_from, is_open, opens_behind, suited, is_valid, AreValid}
+use Rattle.mb_stream.proofs.StandingLemmas.{open_after, Suited, Suited-from_suited, suited-from_Suited}
 use Rattle.mb_stream.proofs.ByteKinds.{Need, One, Two, Kind, DataKind, ChannelKind, CommonKind, TuneKind, StartKind, EndKind, OtherKind, RtKind, OtherRtKind, kind, facts, is_data_kind, is_rt_kind, length_of_kind}
 
 -- the data bytes of a message whose status is of this kind, unused ones 0
@@ -38,54 +39,14 @@ Suits_sign false EndSign = ⊥
 Suits_sign true AbortSign = Unit {0}
 Suits_sign false AbortSign = ⊥
 
-abbrev pub open_after : Bool → Sign → Bool
-open_after o (ShortSign s a b) = false
-open_after o (RtSign b) = o
-open_after o OpenSign = true
-open_after o (ByteSign b) = true
-open_after o EndSign = false
-open_after o AbortSign = false
-
 -- each mark suits what stands before it; the truth value says whether a SysEx is open
 abbrev pub Suit : Bool → List Sign → Type 0
 Suit o [] = Unit {0}
 Suit o (m ∷ ms) = Suits_sign o m × Suit (open_after o m) ms
 
--- The definitions' tests, mark by mark.
-
-last_other_from-push : (found : Option Sign) (ms : List Sign) (m : Sign) →
-    opens_behind (last_other_from found (ms ++ m ∷ [])) ≡ open_after (opens_behind (last_other_from found ms)) m
-last_other_from-push found [] (ShortSign s a b) = refl
-last_other_from-push found [] (RtSign b) = refl
-last_other_from-push found [] OpenSign = refl
-last_other_from-push found [] (ByteSign b) = refl
-last_other_from-push found [] EndSign = refl
-last_other_from-push found [] AbortSign = refl
-last_other_from-push found (ShortSign s a b ∷ ms) m = last_other_from-push (Some (ShortSign s a b)) ms m
-last_other_from-push found (RtSign b ∷ ms) m = last_other_from-push found ms m
-last_other_from-push found (OpenSign ∷ ms) m = last_other_from-push (Some OpenSign) ms m
-last_other_from-push found (ByteSign b ∷ ms) m = last_other_from-push (Some (ByteSign b)) ms m
-last_other_from-push found (EndSign ∷ ms) m = last_other_from-push (Some EndSign) ms m
-last_other_from-push found (AbortSign ∷ ms) m = last_other_from-push (Some AbortSign) ms m
-
-pub is_open-push : (ms : List Sign) (m : Sign) → is_open (ms ++ m ∷ []) ≡ open_after (is_open ms) m
-is_open-push ms m = last_other_from-push None ms m
-
--- the definitions' test of suiting marks, by recursion
-abbrev suited_from : Bool → List Sign → Bool
-suited_from o [] = true
-suited_from o (m ∷ ms) = suits_sign o m && suited_from (open_after o m) ms
-
-suited_from-standing : (before ms : List Sign) →
-    list_all (λ x. suits_sign (is_open x.before) x.mark) (standing before ms) ≡ suited_from (is_open before) ms
-suited_from-standing before [] = refl
-suited_from-standing before (m ∷ ms) =
-    ap (λ t. suits_sign (is_open before) m && t)
-    (suited_from-standing (before ++ m ∷ []) ms ∙ ap (λ o. suited_from o ms) (is_open-push before m))
-
 -- A test of a kind, and the kind.
 
-data_kind : (k : Kind) → is_data_kind k ≡ true → k ≡ DataKind
+pub data_kind : (k : Kind) → is_data_kind k ≡ true → k ≡ DataKind
 data_kind DataKind h = refl
 data_kind (ChannelKind n) h = absurd (false≢true h)
 data_kind (CommonKind n) h = absurd (false≢true h)
@@ -170,15 +131,14 @@ Suits_sign-tests false EndSign h v = false≢true h
 Suits_sign-tests true AbortSign h v = tt
 Suits_sign-tests false AbortSign h v = false≢true h
 
-Suit-tests : (o : Bool) (ms : List Sign) → suited_from o ms ≡ true → AreValid ms → Suit o ms
+Suit-tests : (o : Bool) (ms : List Sign) → Suited o ms → AreValid ms → Suit o ms
 Suit-tests o [] h v = tt
 Suit-tests o (m ∷ ms) h v =
-    let hs : (suits_sign o m ≡ true) × (suited_from (open_after o m) ms ≡ true) = and_parts _ _ h in
     let vs : (is_valid m ≡ true) × (list_all is_valid ms ≡ true) = and_parts _ _ v in
-    (Suits_sign-tests o m hs.0 vs.0, Suit-tests (open_after o m) ms hs.1 vs.1)
+    (Suits_sign-tests o m h.0 vs.0, Suit-tests (open_after o m) ms h.1 vs.1)
 
 pub Suit-suited : (ms : List Sign) → suited ms ≡ true → AreValid ms → Suit false ms
-Suit-suited ms h v = Suit-tests false ms (sym (suited_from-standing [] ms) ∙ h) v
+Suit-suited ms h v = Suit-tests false ms (Suited-from_suited ms h) v
 
 suits_sign-Suits_sign : (o : Bool) (m : Sign) → Suits_sign o m → suits_sign o m ≡ true
 suits_sign-Suits_sign o (RtSign b) h = refl
@@ -202,16 +162,16 @@ is_valid-Suits_sign o (ByteSign b) h = refl
 is_valid-Suits_sign o EndSign h = refl
 is_valid-Suits_sign o AbortSign h = refl
 
-suited_from-Suit : (o : Bool) (ms : List Sign) → Suit o ms → suited_from o ms ≡ true
-suited_from-Suit o [] h = refl
-suited_from-Suit o (m ∷ ms) h = and_from _ _ (suits_sign-Suits_sign o m h.0) (suited_from-Suit (open_after o m) ms h.1)
+Suited-Suit : (o : Bool) (ms : List Sign) → Suit o ms → Suited o ms
+Suited-Suit o [] h = tt
+Suited-Suit o (m ∷ ms) h = (suits_sign-Suits_sign o m h.0, Suited-Suit (open_after o m) ms h.1)
 
 AreValid-Suit_from : (o : Bool) (ms : List Sign) → Suit o ms → AreValid ms
 AreValid-Suit_from o [] h = refl
 AreValid-Suit_from o (m ∷ ms) h = and_from _ _ (is_valid-Suits_sign o m h.0) (AreValid-Suit_from (open_after o m) ms h.1)
 
 pub suited-Suit : (ms : List Sign) → Suit false ms → suited ms ≡ true
-suited-Suit ms h = suited_from-standing [] ms ∙ suited_from-Suit false ms h
+suited-Suit ms h = suited-from_Suited ms (Suited-Suit false ms h)
 
 pub AreValid-Suit : (ms : List Sign) → Suit false ms → AreValid ms
 AreValid-Suit ms h = AreValid-Suit_from false ms h

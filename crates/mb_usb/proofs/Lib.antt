@@ -1,3 +1,4 @@
 mod Events
 mod Examples
+mod HeldBytes
 mod RecordingExamples
