@@ -1,6 +1,6 @@
 -- What a cable carries of written marks: bytes of a SysEx wait for a packet, and a real-time byte passes them. It means what
 -- the marks' bytes mean at once, since a real-time message may stand anywhere in a SysEx.
-use Rattle.std.proofs.Common.{◌≡◌, ℕ, suc, ◌+◌, Bool, true, false, ◌==◌, if◌then◌else◌, List, [], ◌∷◌, ◌++◌, length, Option, Some, None, refl, sym, ap, ap₂, ◌∙◌, subst, subst₂, append_assoc, append-nil}
+use Rattle.std.proofs.Common.{◌≡◌, ℕ, suc, ◌+◌, Bool, true, false, ◌==◌, if◌then◌else◌, List, [], ◌∷◌, ◌++◌, length, Option, Some, None, ◌≤◌, refl, sym, ap, ap₂, ◌∙◌, subst, subst₂, append_assoc, append-nil, arith}
 use Rattle.mb_message.specs.Signs.{Sign, ShortSign, RtSign, OpenSign, ByteSign, EndSign, AbortSign}
 use Rattle.mb_stream.specs.Denotation.{Denotation, Meant, Message, Syx, Broken, Timed, items_from, realtimes_from, denotation}
 use Rattle.mb_stream.specs.Spelling.{data_of, full_bytes}
@@ -207,3 +207,17 @@ held-full [] false r (x ∷ p) h su = absurd h
 held-full (ShortSign s a b ∷ ms) false r (x ∷ p) h su = absurd h
 held-full (RtSign b ∷ ms) false r (x ∷ p) h su = absurd h
 held-full (OpenSign ∷ ms) false r (x ∷ p) h su = absurd h
+
+pub read-held : (ms : List Sign) → Suit false ms → Same (read Rest (held_back [] ms)) (late Closed ms)
+read-held ms su =
+    subst (λ xs. Same (read Rest (held_back [] ms)) xs)
+      (ap (λ bs. read Rest bs) (full_bytes-spelled None ms) ∙ read-spelled false None Rest Closed ms tt su)
+      (held-full ms false Rest [] tt su)
+
+pub denotation-held : (ms : List Sign) → Suit false ms → denotation (read Rest (held_back [] ms)) ≡ denotation ms
+denotation-held ms su =
+    let s : Same (read Rest (held_back [] ms)) (late Closed ms) = read-held ms su in
+    ap₂ (λ is rs. record { items = is; realtimes = rs }) (s.items None) (s.realtimes 0) ∙ denotation-late ms su
+
+pub length-held : (ms : List Sign) → Suit false ms → length (read Rest (held_back [] ms)) ≤ length ms + 1
+length-held ms su = let s : Same (read Rest (held_back [] ms)) (late Closed ms) = read-held ms su in omega (arith, length-late ms su, s.lengths)

@@ -1,4 +1,8 @@
 mod Events
 mod Examples
+mod GoodCuts
 mod HeldBytes
+mod HeldClean
+mod PacketFacts
 mod RecordingExamples
+mod WrittenCuts
