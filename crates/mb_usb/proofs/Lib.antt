@@ -6,3 +6,8 @@ mod HeldClean
 mod PacketFacts
 mod RecordingExamples
 mod WrittenCuts
+mod PacketPlaces
+mod Places
+pub mod RunningLemmas
+pub mod UsbLaw
+pub mod WriterLemmas
