@@ -7,5 +7,6 @@ pub mod SpelledStep
 pub mod ReadMarks
 pub mod SpelledMarks
 pub mod Suits
+pub mod OrderedMarks
 mod Examples
 pub mod StandingLemmas

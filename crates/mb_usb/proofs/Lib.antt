@@ -4,10 +4,11 @@ mod GoodCuts
 mod HeldBytes
 mod HeldClean
 mod PacketFacts
-mod RecordingExamples
-mod WrittenCuts
 mod PacketPlaces
+mod PayloadMarks
 mod Places
+mod RecordingExamples
 pub mod RunningLemmas
 pub mod UsbLaw
 pub mod WriterLemmas
+mod WrittenCuts
