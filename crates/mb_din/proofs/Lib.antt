@@ -1,1 +1,2 @@
+mod DinMarks
 mod Examples

@@ -1,3 +1,4 @@
+mod CarrierLaws
 mod Events
 mod Examples
 mod GoodCuts
