@@ -10,3 +10,4 @@ pub mod Suits
 pub mod OrderedMarks
 mod Examples
 pub mod StandingLemmas
+pub mod WorkingForm

@@ -1,16 +1,17 @@
 -- A reading has the marks that the machine of bare marks reads of its bytes, and no note where the machine has none.
-use Rattle.std.proofs.Common.{◌≡◌, ℕ, ◌+◌, Bool, true, false, List, [], ◌∷◌, ◌++◌, map, flat_map, length, Option, Some, None, refl, sym, ap, ap₂, ◌∙◌, subst, arith}
+use Rattle.std.proofs.Common.{◌≡◌, ℕ, ◌+◌, Bool, true, false, List, [], ◌∷◌, ◌++◌, map, flat_map, Option, Some, None, refl, sym, ap, ap₂, ◌∙◌, subst, arith}
 use Rattle.std.proofs.lemmas.List.Concat.{flat_map-append}
-use Rattle.mb_message.specs.Signs.{Sign, AbortSign}
-use Rattle.mb_stream.specs.Payload.{Spot, Entry, Heard, Silent, heard_from, last_moment}
+use Rattle.mb_message.specs.Signs.{Sign}
+use Rattle.mb_stream.specs.Payload.{Entry, Heard, Silent, heard_from, last_moment}
 use Rattle.mb_stream.specs.Groups.{Group, no_group, is_sysex, last_of}
 use Rattle.mb_stream.specs.Told.{Told, Known, begun_at, truncated_end, broken_end, at_end}
-use Rattle.mb_stream.specs.Reading.{Part, part_of, part_at, sign_in, note_in, Remark, signs_of, notes_of, so_far, end_part, reading}
+use Rattle.mb_stream.specs.Reading.{part_of, part_at, sign_in, note_in, Remark, signs_of, notes_of, so_far, end_part, reading}
 use Rattle.mb_stream.specs.Working.{news, behind, news_from, group_after, RisesFrom}
 use Rattle.mb_stream.proofs.ByteKinds.{kind}
 use Rattle.mb_stream.proofs.Machine.{Reader, Rest, Waits, Ready, Begun, Inside, ends, tells, after, is_begun, is_inside, tell, read, Clean, read-tell}
 use Rattle.mb_stream.proofs.Machine
-use Rattle.mb_stream.proofs.Literal.{reader_of, known_signs, known_notes, Agrees, byte-tells, Followed, followed}
+use Rattle.mb_stream.proofs.WorkingForm.{so_far-news, last_of-after}
+use Rattle.mb_stream.proofs.Literal.{reader_of, known_signs, known_notes, Agrees, byte-tells, followed}
 
 -- a payload that is bytes alone
 abbrev pub AllHeard : List Entry → Type 0
@@ -30,7 +31,7 @@ news-tell g (Heard x ∷ es) h =
     let a : Agrees (news g x) (behind g (Heard x)) (reader_of g) (kind x.byte) x.byte = byte-tells g x in
     flat_map-append (λ k. sign_in k.told) (news g x) (news_from (behind g (Heard x)) es)
     ∙ ap₂ (λ ms ns. ms ++ ns) a.signs
-      (news-tell (behind g (Heard x)) es h ∙ ap (λ r. tell r (heard_bytes es)) a.next)
+    (news-tell (behind g (Heard x)) es h ∙ ap (λ r. tell r (heard_bytes es)) a.next)
 
 pub group-reader : (g : Group) (es : List Entry) → AllHeard es → reader_of (group_after g es) ≡ Machine.behind (reader_of g) (heard_bytes es)
 group-reader g [] h = refl
@@ -51,12 +52,12 @@ news-clean g (Silent s ∷ es) h c = absurd h
 news-clean g (Heard x ∷ es) h c =
     let a : Agrees (news g x) (behind g (Heard x)) (reader_of g) (kind x.byte) x.byte = byte-tells g x in
     let rest : NoNews (news_from (behind g (Heard x)) es) (reader_of (group_after (behind g (Heard x)) es)) =
-      news-clean (behind g (Heard x)) es h (subst (λ r. Clean r (heard_bytes es)) (sym a.next) c.1) in
+    news-clean (behind g (Heard x)) es h (subst (λ r. Clean r (heard_bytes es)) (sym a.next) c.1) in
     record {
       no_notes =
-        flat_map-append (λ k. note_in k.told) (news g x) (news_from (behind g (Heard x)) es)
-        ∙ ap₂ (λ ms ns. ms ++ ns) (a.quiet c.0) rest.no_notes;
-      unbegun = rest.unbegun
+          flat_map-append (λ k. note_in k.told) (news g x) (news_from (behind g (Heard x)) es)
+          ∙ ap₂ (λ ms ns. ms ++ ns) (a.quiet c.0) rest.no_notes;
+      unbegun = rest.unbegun;
     }
 
 abbrev pub told_signs : List Told → List Sign
@@ -105,39 +106,34 @@ pub at_end-notes : (g : Group) → is_begun (reader_of g) ≡ false → told_not
 at_end-notes g h =
     ap (λ bt. told_notes (truncated_end bt ++ broken_end (is_sysex g))) ((followed g).unbegun h) ∙ broken-notes (is_sysex g)
 
--- TEMPORARY
-pub record NewsLaw : Type 0 where
-  pub so_far-news : (low : ℕ) (es : List Entry) → RisesFrom low es → so_far es ≡ news_from no_group es
-  pub last_of-after : (es : List Entry) → last_of es ≡ group_after no_group es
-
 -- The end part, at any moment.
-pub end_part-signs : (law : NewsLaw) → (moment : ℕ) (es : List Entry) → AllHeard es → signs_of (end_part moment es) ≡ ends (Machine.behind Rest (heard_bytes es))
-end_part-signs law moment es h =
+pub end_part-signs : (moment : ℕ) (es : List Entry) → AllHeard es → signs_of (end_part moment es) ≡ ends (Machine.behind Rest (heard_bytes es))
+end_part-signs moment es h =
     end-signs moment (at_end (last_of es))
     ∙ (at_end-signs (last_of es)
-    ∙ ap ends (ap reader_of (law.last_of-after es) ∙ group-reader no_group es h))
+    ∙ ap ends (ap reader_of (last_of-after es) ∙ group-reader no_group es h))
 
-pub end_part-notes : (law : NewsLaw) → (moment : ℕ) (es : List Entry) → AllHeard es → Clean Rest (heard_bytes es) → notes_of (end_part moment es) ≡ []
-end_part-notes law moment es h c =
+pub end_part-notes : (moment : ℕ) (es : List Entry) → AllHeard es → Clean Rest (heard_bytes es) → notes_of (end_part moment es) ≡ []
+end_part-notes moment es h c =
     end-notes moment (at_end (last_of es))
-    ∙ at_end-notes (last_of es) (ap (λ g. is_begun (reader_of g)) (law.last_of-after es) ∙ (news-clean no_group es h c).unbegun)
+    ∙ at_end-notes (last_of es) (ap (λ g. is_begun (reader_of g)) (last_of-after es) ∙ (news-clean no_group es h c).unbegun)
 
-pub so_far-signs : (law : NewsLaw) → (low : ℕ) (es : List Entry) → RisesFrom low es → AllHeard es → known_signs (so_far es) ≡ tell Rest (heard_bytes es)
-so_far-signs law low es rises h = ap known_signs (law.so_far-news low es rises) ∙ news-tell no_group es h
+pub so_far-signs : (low : ℕ) (es : List Entry) → RisesFrom low es → AllHeard es → known_signs (so_far es) ≡ tell Rest (heard_bytes es)
+so_far-signs low es rises h = ap known_signs (so_far-news low es rises) ∙ news-tell no_group es h
 
-pub so_far-notes : (law : NewsLaw) → (low : ℕ) (es : List Entry) → RisesFrom low es → AllHeard es → Clean Rest (heard_bytes es) → known_notes (so_far es) ≡ []
-so_far-notes law low es rises h c = ap known_notes (law.so_far-news low es rises) ∙ (news-clean no_group es h c).no_notes
+pub so_far-notes : (low : ℕ) (es : List Entry) → RisesFrom low es → AllHeard es → Clean Rest (heard_bytes es) → known_notes (so_far es) ≡ []
+so_far-notes low es rises h c = ap known_notes (so_far-news low es rises) ∙ (news-clean no_group es h c).no_notes
 
-pub reading-signs : (law : NewsLaw) → (low : ℕ) (es : List Entry) → RisesFrom low es → AllHeard es → signs_of (reading es) ≡ read Rest (heard_bytes es)
-reading-signs law low es rises h =
+pub reading-signs : (low : ℕ) (es : List Entry) → RisesFrom low es → AllHeard es → signs_of (reading es) ≡ read Rest (heard_bytes es)
+reading-signs low es rises h =
     flat_map-append (λ p. sign_in p.told) (map part_of (so_far es)) (end_part (last_moment 0 es) es)
-    ∙ (ap₂ (λ ms ns. ms ++ ns) (parts-signs (so_far es) ∙ so_far-signs law low es rises h) (end_part-signs law (last_moment 0 es) es h)
+    ∙ (ap₂ (λ ms ns. ms ++ ns) (parts-signs (so_far es) ∙ so_far-signs low es rises h) (end_part-signs (last_moment 0 es) es h)
     ∙ sym (read-tell Rest (heard_bytes es)))
 
-pub reading-notes : (law : NewsLaw) → (low : ℕ) (es : List Entry) → RisesFrom low es → AllHeard es → Clean Rest (heard_bytes es) → notes_of (reading es) ≡ []
-reading-notes law low es rises h c =
+pub reading-notes : (low : ℕ) (es : List Entry) → RisesFrom low es → AllHeard es → Clean Rest (heard_bytes es) → notes_of (reading es) ≡ []
+reading-notes low es rises h c =
     flat_map-append (λ p. note_in p.told) (map part_of (so_far es)) (end_part (last_moment 0 es) es)
-    ∙ ap₂ (λ ms ns. ms ++ ns) (parts-notes (so_far es) ∙ so_far-notes law low es rises h c) (end_part-notes law (last_moment 0 es) es h c)
+    ∙ ap₂ (λ ms ns. ms ++ ns) (parts-notes (so_far es) ∙ so_far-notes low es rises h c) (end_part-notes (last_moment 0 es) es h c)
 
 -- Bytes side by side.
 

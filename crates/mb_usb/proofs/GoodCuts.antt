@@ -1,15 +1,14 @@
 -- Each packet that is written suits its code index number.
-use Rattle.std.proofs.Common.{◌≡◌, ℕ, suc, ◌+◌, ◌/◌, ◌<◌, ◌≤◌, Bool, true, false, not, ◌&&◌, ◌||◌, ◌==◌, nat_lt, nat_le, if◌then◌else◌, List, [], ◌∷◌, ◌++◌, length, Option, Some, None, refl, sym, ap, ap₂, ◌∙◌, subst, arith, lit<}
+use Rattle.std.proofs.Common.{◌≡◌, ℕ, ◌+◌, ◌<◌, Bool, true, false, not, ◌&&◌, ◌||◌, ◌==◌, nat_lt, List, [], ◌∷◌, ◌++◌, length, Option, Some, None, refl, sym, ap, ◌∙◌, subst, arith, lit<}
 use Rattle.std.proofs.lemmas.Bool.{agree_below_at, and_parts, and_from, eqb-true, ltb-true, leb-false, not-true, or_right}
 use Rattle.mb_message.specs.Bytes.{is_data, is_realtime, data_length}
 use Rattle.mb_message.specs.Signs.{Sign, ShortSign, RtSign, OpenSign, ByteSign, EndSign, AbortSign}
 use Rattle.mb_stream.specs.Spelling.{data_of, data_by_length}
 use Rattle.mb_stream.proofs.ByteKinds.{Need, One, Two, Kind, DataKind, ChannelKind, CommonKind, TuneKind, StartKind, EndKind, OtherKind, RtKind, OtherRtKind, kind, facts, length_of_kind, count_of, is_realtime_kind}
-use Rattle.mb_stream.proofs.Suits.{Suit, Suits_sign, Fits_kind, Fits_need, data-kind}
-use Rattle.mb_usb.specs.Packets.{padded, cin_of_short}
-use Rattle.mb_usb.specs.Running.{pending_after}
-use Rattle.mb_usb.specs.Reading.{used, suits_cin, suits_rest, starts_or_goes_on}
-use Rattle.mb_usb.proofs.PacketFacts.{Cut, cut, IsGood, AreGood, AreGood-append}
+use Rattle.mb_stream.proofs.Suits.{Suit, Fits_kind, Fits_need, data-kind}
+use Rattle.mb_usb.specs.Packets.{cin_of_short}
+use Rattle.mb_usb.specs.Reading.{used, suits_cin, starts_or_goes_on}
+use Rattle.mb_usb.proofs.PacketFacts.{cut, IsGood, AreGood, AreGood-append}
 use Rattle.mb_usb.proofs.WrittenCuts.{singles, cuts}
 
 -- what the code index number of a status with so many data bytes is, all tests at once
@@ -41,15 +40,15 @@ number_facts_by n s k h =
       uses = eqb-true (used n) (1 + k) c.0;
       suits = d.0;
       not_six = not-true (n == 6) e.0;
-      not_seven = not-true (n == 7) e.1
+      not_seven = not-true (n == 7) e.1;
     }
 
 -- the table of statuses
 status_facts : (s k : ℕ) → is_realtime s ≡ false → data_length s ≡ Some k → NumberFacts (cin_of_short s) s k
 status_facts s k low e =
     number_facts_by (cin_of_short s) s k
-      (subst (λ n. status_test_by s n ≡ true) e
-        (agree_below_at (λ x. status_test_by x (data_length x)) (λ x. true) 248 s refl (leb-false 248 s low)))
+    (subst (λ n. status_test_by s n ≡ true) e
+    (agree_below_at (λ x. status_test_by x (data_length x)) (λ x. true) 248 s refl (leb-false 248 s low)))
 
 suits-data : (n s a b : ℕ) → (n == 6) ≡ false → (n == 7) ≡ false → is_data a ≡ true → is_data b ≡ true → suits_cin n s a b ≡ suits_cin n s 0 0
 suits-data n s a b six seven da db = rw (six, seven, da, db)
@@ -61,26 +60,26 @@ good_need n s k a b One e f fits = record {
   unreserved = f.unreserved;
   uses = f.uses ∙ ap (λ x. 1 + x) e;
   three = omega arith;
-  suits = suits-data n s a 0 f.not_six f.not_seven (data-kind a fits.0) refl ∙ f.suits
+  suits = suits-data n s a 0 f.not_six f.not_seven (data-kind a fits.0) refl ∙ f.suits;
 }
 good_need n s k a b Two e f fits = record {
   low = f.low;
   unreserved = f.unreserved;
   uses = f.uses ∙ ap (λ x. 1 + x) e;
   three = omega arith;
-  suits = suits-data n s a b f.not_six f.not_seven (data-kind a fits.0) (data-kind b fits.1) ∙ f.suits
+  suits = suits-data n s a b f.not_six f.not_seven (data-kind a fits.0) (data-kind b fits.1) ∙ f.suits;
 }
 
 good_short_by : (s a b : ℕ) (k : Kind) → kind s ≡ k → Fits_kind k a b → IsGood (cut (cin_of_short s) (s ∷ data_by_length (length_of_kind k) a b))
 good_short_by s a b (ChannelKind n) e f =
     good_need (cin_of_short s) s (count_of n) a b n refl
-      (status_facts s (count_of n) ((facts s).is_realtime ∙ ap is_realtime_kind e) ((facts s).data_length ∙ ap length_of_kind e)) f
+    (status_facts s (count_of n) ((facts s).is_realtime ∙ ap is_realtime_kind e) ((facts s).data_length ∙ ap length_of_kind e)) f
 good_short_by s a b (CommonKind n) e f =
     good_need (cin_of_short s) s (count_of n) a b n refl
-      (status_facts s (count_of n) ((facts s).is_realtime ∙ ap is_realtime_kind e) ((facts s).data_length ∙ ap length_of_kind e)) f
+    (status_facts s (count_of n) ((facts s).is_realtime ∙ ap is_realtime_kind e) ((facts s).data_length ∙ ap length_of_kind e)) f
 good_short_by s a b TuneKind e f =
     let t : NumberFacts (cin_of_short s) s 0 =
-      status_facts s 0 ((facts s).is_realtime ∙ ap is_realtime_kind e) ((facts s).data_length ∙ ap length_of_kind e) in
+    status_facts s 0 ((facts s).is_realtime ∙ ap is_realtime_kind e) ((facts s).data_length ∙ ap length_of_kind e) in
     record { low = t.low; unreserved = t.unreserved; uses = t.uses; three = omega arith; suits = t.suits }
 good_short_by s a b DataKind e f = absurd f
 good_short_by s a b StartKind e f = absurd f

@@ -2,14 +2,13 @@
 -- the marks' bytes mean at once, since a real-time message may stand anywhere in a SysEx.
 use Rattle.std.proofs.Common.{◌≡◌, ℕ, suc, ◌+◌, Bool, true, false, ◌==◌, if◌then◌else◌, List, [], ◌∷◌, ◌++◌, length, Option, Some, None, ◌≤◌, refl, sym, ap, ap₂, ◌∙◌, subst, subst₂, append_assoc, append-nil, arith}
 use Rattle.mb_message.specs.Signs.{Sign, ShortSign, RtSign, OpenSign, ByteSign, EndSign, AbortSign}
-use Rattle.mb_stream.specs.Denotation.{Denotation, Meant, Message, Syx, Broken, Timed, items_from, realtimes_from, denotation}
+use Rattle.mb_stream.specs.Denotation.{Message, Syx, Broken, items_from, realtimes_from, denotation}
 use Rattle.mb_stream.specs.Spelling.{data_of, full_bytes}
-use Rattle.mb_stream.proofs.ByteKinds.{DataKind, RtKind, EndKind, kind}
-use Rattle.mb_stream.proofs.Machine.{Reader, Rest, Waits, Ready, Begun, Inside, ends, tells, after, noted, is_begun, tell, read, behind, Quiet, Clean, read-append, tell-append, behind-append, Clean-append}
-use Rattle.mb_stream.proofs.Late.{Place, Closed, Opened, Broke, owed, late, late_at, place_after, is_opened, denotation-late, length-late}
-use Rattle.mb_stream.proofs.Suits.{Suit, Suits_sign}
-use Rattle.mb_stream.proofs.SpelledStep.{bytes_at, running_after, Told, Meets, Meets-quiet, Step, step}
-use Rattle.mb_stream.proofs.SpelledMarks.{bytes_from, read-spelled, full_bytes-spelled}
+use Rattle.mb_stream.proofs.ByteKinds.{DataKind, RtKind, kind}
+use Rattle.mb_stream.proofs.Machine.{Reader, Rest, Waits, Ready, Begun, Inside, tells, after, tell, read, behind, read-append, tell-append, behind-append}
+use Rattle.mb_stream.proofs.Late.{Closed, late, denotation-late, length-late}
+use Rattle.mb_stream.proofs.Suits.{Suit}
+use Rattle.mb_stream.proofs.SpelledMarks.{read-spelled, full_bytes-spelled}
 
 -- the bytes that are carried of marks, behind bytes of a SysEx that wait; at the end all that waits
 abbrev pub held_back : List ℕ → List Sign → List ℕ
@@ -37,7 +36,7 @@ Same-trans : (xs ys zs : List Sign) → Same xs ys → Same ys zs → Same xs zs
 Same-trans xs ys zs h k = record {
   items = λ o. h.items o ∙ k.items o;
   realtimes = λ n. h.realtimes n ∙ k.realtimes n;
-  lengths = h.lengths ∙ k.lengths
+  lengths = h.lengths ∙ k.lengths;
 }
 
 items-cons : (z : Sign) (xs ys : List Sign) → ((o : Option (List ℕ)) → items_from o xs ≡ items_from o ys) →
@@ -66,7 +65,7 @@ Same-cons : (z : Sign) (xs ys : List Sign) → Same xs ys → Same (z ∷ xs) (z
 Same-cons z xs ys h = record {
   items = items-cons z xs ys h.items;
   realtimes = realtimes-cons z xs ys h.realtimes;
-  lengths = ap suc h.lengths
+  lengths = ap suc h.lengths;
 }
 
 Same-behind : (zs xs ys : List Sign) → Same xs ys → Same (zs ++ xs) (zs ++ ys)
@@ -104,16 +103,16 @@ early : (b : ℕ) (zs xs : List Sign) → Passable zs → Same (RtSign b ∷ (zs
 early b [] xs h = Same-refl (RtSign b ∷ xs)
 early b (OpenSign ∷ zs) xs h =
     Same-trans (RtSign b ∷ OpenSign ∷ (zs ++ xs)) (OpenSign ∷ RtSign b ∷ (zs ++ xs)) (OpenSign ∷ (zs ++ RtSign b ∷ xs))
-      (record { items = λ o. refl; realtimes = λ n. refl; lengths = refl })
-      (Same-cons OpenSign (RtSign b ∷ (zs ++ xs)) (zs ++ RtSign b ∷ xs) (early b zs xs h))
+    (record { items = λ o. refl; realtimes = λ n. refl; lengths = refl })
+    (Same-cons OpenSign (RtSign b ∷ (zs ++ xs)) (zs ++ RtSign b ∷ xs) (early b zs xs h))
 early b (ByteSign d ∷ zs) xs h =
     Same-trans (RtSign b ∷ ByteSign d ∷ (zs ++ xs)) (ByteSign d ∷ RtSign b ∷ (zs ++ xs)) (ByteSign d ∷ (zs ++ RtSign b ∷ xs))
-      (record { items = λ o. early-byte_items o b d (zs ++ xs); realtimes = λ n. refl; lengths = refl })
-      (Same-cons (ByteSign d) (RtSign b ∷ (zs ++ xs)) (zs ++ RtSign b ∷ xs) (early b zs xs h))
+    (record { items = λ o. early-byte_items o b d (zs ++ xs); realtimes = λ n. refl; lengths = refl })
+    (Same-cons (ByteSign d) (RtSign b ∷ (zs ++ xs)) (zs ++ RtSign b ∷ xs) (early b zs xs h))
 early b (AbortSign ∷ zs) xs h =
     Same-trans (RtSign b ∷ AbortSign ∷ (zs ++ xs)) (AbortSign ∷ RtSign b ∷ (zs ++ xs)) (AbortSign ∷ (zs ++ RtSign b ∷ xs))
-      (record { items = λ o. early-abort_items o b (zs ++ xs); realtimes = λ n. refl; lengths = refl })
-      (Same-cons AbortSign (RtSign b ∷ (zs ++ xs)) (zs ++ RtSign b ∷ xs) (early b zs xs h))
+    (record { items = λ o. early-abort_items o b (zs ++ xs); realtimes = λ n. refl; lengths = refl })
+    (Same-cons AbortSign (RtSign b ∷ (zs ++ xs)) (zs ++ RtSign b ∷ xs) (early b zs xs h))
 early b (ShortSign s a c ∷ zs) xs h = absurd h
 early b (RtSign c ∷ zs) xs h = absurd h
 early b (EndSign ∷ zs) xs h = absurd h
@@ -132,10 +131,10 @@ Held true r p = Waiting r p
 Waiting-push : (r : Reader) (p : List ℕ) (b : ℕ) → Waiting r p → kind b ≡ DataKind → Waiting r (p ++ b ∷ [])
 Waiting-push r p b h e = record {
   passes =
-    subst (λ xs. Passable xs) (sym (tell-append r p (b ∷ [])))
+      subst (λ xs. Passable xs) (sym (tell-append r p (b ∷ [])))
       (Passable-append (tell r p) (tell (behind r p) (b ∷ [])) h.passes
-        (subst₂ (λ x k. Passable (tells x k b ++ [])) (sym h.inside) (sym e) tt));
-  inside = behind-append r p (b ∷ []) ∙ ap₂ (λ x k. after x k b) h.inside e
+      (subst₂ (λ x k. Passable (tells x k b ++ [])) (sym h.inside) (sym e) tt));
+  inside = behind-append r p (b ∷ []) ∙ ap₂ (λ x k. after x k b) h.inside e;
 }
 
 inside-data : (r : Reader) (b : ℕ) → r ≡ Inside → kind b ≡ DataKind → behind r (b ∷ []) ≡ Inside
@@ -155,7 +154,7 @@ Waiting-start r = record { passes = start_passes r; inside = refl }
 same_after : (r : Reader) (bs xs ys : List ℕ) → Same (read (behind r bs) xs) (read (behind r bs) ys) → Same (read r (bs ++ xs)) (read r (bs ++ ys))
 same_after r bs xs ys h =
     subst₂ (λ x y. Same x y) (sym (read-append r bs xs)) (sym (read-append r bs ys))
-      (Same-behind (tell r bs) (read (behind r bs) xs) (read (behind r bs) ys) h)
+    (Same-behind (tell r bs) (read (behind r bs) xs) (read (behind r bs) ys) h)
 
 rt_first : (r : Reader) (b : ℕ) (xs : List ℕ) → kind b ≡ RtKind → read r (b ∷ xs) ≡ RtSign b ∷ read r xs
 rt_first r b xs e = ap (λ k. tells r k b ++ read (after r k b) xs) e
@@ -165,10 +164,10 @@ rt_passes : (r : Reader) (b : ℕ) (p xs ys : List ℕ) → kind b ≡ RtKind �
     Same (read r (b ∷ xs)) (read r (p ++ b ∷ ys))
 rt_passes r b p xs ys e h same =
     subst₂ (λ x y. Same x y) (sym (rt_first r b xs e))
-      (sym (read-append r p (b ∷ ys) ∙ ap (λ zs. tell r p ++ zs) (rt_first (behind r p) b ys e)))
-      (Same-trans (RtSign b ∷ read r xs) (RtSign b ∷ (tell r p ++ read (behind r p) ys)) (tell r p ++ RtSign b ∷ read (behind r p) ys)
-        (Same-cons (RtSign b) (read r xs) (tell r p ++ read (behind r p) ys) (subst (λ y. Same (read r xs) y) (read-append r p ys) same))
-        (early b (tell r p) (read (behind r p) ys) h.passes))
+    (sym (read-append r p (b ∷ ys) ∙ ap (λ zs. tell r p ++ zs) (rt_first (behind r p) b ys e)))
+    (Same-trans (RtSign b ∷ read r xs) (RtSign b ∷ (tell r p ++ read (behind r p) ys)) (tell r p ++ RtSign b ∷ read (behind r p) ys)
+    (Same-cons (RtSign b) (read r xs) (tell r p ++ read (behind r p) ys) (subst (λ y. Same (read r xs) y) (read-append r p ys) same))
+    (early b (tell r p) (read (behind r p) ys) h.passes))
 
 held-full : (ms : List Sign) (o : Bool) (r : Reader) (p : List ℕ) → Held o r p → Suit o ms → Same (read r (held_back p ms)) (read r (p ++ full_bytes ms))
 held-full [] false r [] h su = Same-refl (read r [])
@@ -185,21 +184,21 @@ held-full (ByteSign b ∷ ms) false r p h su = absurd su.0
 held-full (ByteSign b ∷ ms) true r p h su =
     let Goal : Bool → Type 0 = λ c. Same (read r (if c then p ++ b ∷ held_back [] ms else held_back (p ++ b ∷ []) ms)) (read r (p ++ b ∷ full_bytes ms)) in
     let later : Same (read (behind (behind r p) (b ∷ [])) (held_back [] ms)) (read (behind (behind r p) (b ∷ [])) (full_bytes ms)) =
-      held-full ms true (behind (behind r p) (b ∷ [])) []
-        (record { passes = tt; inside = inside-data (behind r p) b h.inside su.0 }) su.1 in
+    held-full ms true (behind (behind r p) (b ∷ [])) []
+    (record { passes = tt; inside = inside-data (behind r p) b h.inside su.0 }) su.1 in
     let kept : Same (read r (held_back (p ++ b ∷ []) ms)) (read r ((p ++ b ∷ []) ++ full_bytes ms)) =
-      held-full ms true r (p ++ b ∷ []) (Waiting-push r p b h su.0) su.1 in
+    held-full ms true r (p ++ b ∷ []) (Waiting-push r p b h su.0) su.1 in
     elim (length p == 2) as Goal [
       | true ↦
-        same_after r p (b ∷ held_back [] ms) (b ∷ full_bytes ms)
+          same_after r p (b ∷ held_back [] ms) (b ∷ full_bytes ms)
           (same_after (behind r p) (b ∷ []) (held_back [] ms) (full_bytes ms) later)
       | false ↦ subst (λ bs. Same (read r (held_back (p ++ b ∷ []) ms)) (read r bs)) (append_assoc p (b ∷ []) (full_bytes ms)) kept
     ]
 held-full (EndSign ∷ ms) false r p h su = absurd su.0
 held-full (EndSign ∷ ms) true r p h su =
     same_after r p (0xf7 ∷ held_back [] ms) (0xf7 ∷ full_bytes ms)
-      (same_after (behind r p) (0xf7 ∷ []) (held_back [] ms) (full_bytes ms)
-        (held-full ms false (behind (behind r p) (0xf7 ∷ [])) [] tt su.1))
+    (same_after (behind r p) (0xf7 ∷ []) (held_back [] ms) (full_bytes ms)
+    (held-full ms false (behind (behind r p) (0xf7 ∷ [])) [] tt su.1))
 held-full (AbortSign ∷ ms) false r p h su = absurd su.0
 held-full (AbortSign ∷ ms) true r p h su =
     same_after r p (held_back [] ms) (full_bytes ms) (held-full ms false (behind r p) [] tt su.1)
@@ -211,8 +210,8 @@ held-full (OpenSign ∷ ms) false r (x ∷ p) h su = absurd h
 pub read-held : (ms : List Sign) → Suit false ms → Same (read Rest (held_back [] ms)) (late Closed ms)
 read-held ms su =
     subst (λ xs. Same (read Rest (held_back [] ms)) xs)
-      (ap (λ bs. read Rest bs) (full_bytes-spelled None ms) ∙ read-spelled false None Rest Closed ms tt su)
-      (held-full ms false Rest [] tt su)
+    (ap (λ bs. read Rest bs) (full_bytes-spelled None ms) ∙ read-spelled false None Rest Closed ms tt su)
+    (held-full ms false Rest [] tt su)
 
 pub denotation-held : (ms : List Sign) → Suit false ms → denotation (read Rest (held_back [] ms)) ≡ denotation ms
 denotation-held ms su =

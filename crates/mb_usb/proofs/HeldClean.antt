@@ -1,12 +1,11 @@
 -- What a cable carries of written marks has no note.
-use Rattle.std.proofs.Common.{◌≡◌, ℕ, Bool, true, false, ◌==◌, if◌then◌else◌, List, [], ◌∷◌, ◌++◌, length, Option, Some, None, refl, sym, ap, ap₂, ◌∙◌, subst, subst₂}
+use Rattle.std.proofs.Common.{◌≡◌, ℕ, Bool, true, false, ◌==◌, if◌then◌else◌, List, [], ◌∷◌, ◌++◌, length, Option, Some, None, refl, sym, ap, ap₂, ◌∙◌, subst}
 use Rattle.mb_message.specs.Signs.{Sign, ShortSign, RtSign, OpenSign, ByteSign, EndSign, AbortSign}
-use Rattle.mb_stream.specs.Spelling.{data_of}
-use Rattle.mb_stream.proofs.ByteKinds.{DataKind, RtKind, StartKind, EndKind, kind}
-use Rattle.mb_stream.proofs.Machine.{Reader, Rest, Waits, Ready, Begun, Inside, after, noted, is_begun, behind, Quiet, Clean, behind-append, Clean-append}
-use Rattle.mb_stream.proofs.Late.{Place, Closed, Opened, Broke, place_after, is_opened}
-use Rattle.mb_stream.proofs.Suits.{Suit, Suits_sign}
-use Rattle.mb_stream.proofs.SpelledStep.{bytes_at, running_after, Told, Meets, Meets-quiet, Step, step}
+use Rattle.mb_stream.proofs.ByteKinds.{DataKind, RtKind, EndKind, kind}
+use Rattle.mb_stream.proofs.Machine.{Reader, Rest, Inside, after, noted, is_begun, behind, Quiet, Clean, behind-append, Clean-append}
+use Rattle.mb_stream.proofs.Late.{Place, Closed, Opened, Broke, is_opened}
+use Rattle.mb_stream.proofs.Suits.{Suit}
+use Rattle.mb_stream.proofs.SpelledStep.{bytes_at, Meets, Meets-quiet, Step, step}
 use Rattle.mb_usb.proofs.HeldBytes.{held_back}
 
 -- the reader before bytes that wait: none of them has a note, and behind them it is inside
@@ -42,7 +41,7 @@ inside_quiet r b h e = (ap₂ (λ x k. noted x k) h e, tt)
 Silent-push : (r : Reader) (p : List ℕ) (b : ℕ) → Silent r p → kind b ≡ DataKind → Silent r (p ++ b ∷ [])
 Silent-push r p b h e = record {
   quiet = Quiet-append r p (b ∷ []) h.quiet (inside_quiet (behind r p) b h.inside e);
-  inside = behind-append r p (b ∷ []) ∙ ap₂ (λ x k. after x k b) h.inside e
+  inside = behind-append r p (b ∷ []) ∙ ap₂ (λ x k. after x k b) h.inside e;
 }
 
 -- one mark's bytes by themselves, none waiting
@@ -78,7 +77,7 @@ clean-held (ByteSign b ∷ ms) Opened r p h su =
     let Goal : Bool → Type 0 = λ c. Clean r (if c then p ++ b ∷ held_back [] ms else held_back (p ++ b ∷ []) ms) in
     let quiet : Quiet (behind r p) (b ∷ []) = inside_quiet (behind r p) b h.inside su.0 in
     let later : Clean (behind (behind r p) (b ∷ [])) (held_back [] ms) =
-      clean-held ms Opened (behind (behind r p) (b ∷ [])) [] (record { quiet = tt; inside = ap₂ (λ x k. after x k b) h.inside su.0 }) su.1 in
+    clean-held ms Opened (behind (behind r p) (b ∷ [])) [] (record { quiet = tt; inside = ap₂ (λ x k. after x k b) h.inside su.0 }) su.1 in
     let kept : Clean r (held_back (p ++ b ∷ []) ms) = clean-held ms Opened r (p ++ b ∷ []) (Silent-push r p b h su.0) su.1 in
     elim (length p == 2) as Goal [
       | true ↦ Clean-append r p (b ∷ held_back [] ms) h.quiet (Clean-append (behind r p) (b ∷ []) (held_back [] ms) quiet later)
@@ -87,7 +86,7 @@ clean-held (ByteSign b ∷ ms) Opened r p h su =
 clean-held (EndSign ∷ ms) Opened r p h su =
     let ended : Quiet (behind r p) (0xf7 ∷ []) = (ap (λ x. noted x EndKind) h.inside, tt) in
     Clean-append r p (0xf7 ∷ held_back [] ms) h.quiet
-      (Clean-append (behind r p) (0xf7 ∷ []) (held_back [] ms) ended (clean-held ms Closed Rest [] tt su.1))
+    (Clean-append (behind r p) (0xf7 ∷ []) (held_back [] ms) ended (clean-held ms Closed Rest [] tt su.1))
 clean-held (AbortSign ∷ ms) Opened r p h su =
     Clean-append r p (held_back [] ms) h.quiet (clean-held ms Broke (behind r p) [] h.inside su.1)
 clean-held (ByteSign b ∷ ms) Closed r p h su = absurd su.0

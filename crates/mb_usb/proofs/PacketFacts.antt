@@ -1,10 +1,9 @@
 -- What is written is a row of packets, each of at most three bytes that suit its code index number. What such a row carries,
 -- how long it is, and that nothing is remarked of it.
-use Rattle.std.proofs.Common.{◌≡◌, ℕ, suc, ◌+◌, ◌*◌, ◌/◌, ◌%◌, ◌<◌, ◌≤◌, Bool, true, false, not, ◌&&◌, ◌||◌, ◌==◌, nat_lt, nat_le, if◌then◌else◌, List, [], ◌∷◌, ◌++◌, length, take, flat_map, refl, sym, ap, ap₂, ◌∙◌, subst, arith, length-append, append-nil}
-use Rattle.std.proofs.lemmas.List.Concat.{flat_map-append}
-use Rattle.std.proofs.lemmas.Bool.{le-ltb, lt-leb, eq-eqb}
+use Rattle.std.proofs.Common.{◌≡◌, ℕ, ◌+◌, ◌*◌, ◌<◌, ◌≤◌, true, ◌==◌, if◌then◌else◌, List, [], ◌∷◌, ◌++◌, length, take, flat_map, refl, sym, ap, ap₂, ◌∙◌, subst, arith, length-append}
+use Rattle.std.proofs.lemmas.Bool.{lt-leb, eq-eqb}
 use Rattle.mb_message.specs.declared.note.NoteKind.TheVariants.{ReservedCin, CinMismatch}
-use Rattle.mb_stream.specs.Payload.{Entry, Heard, Silent, heard_from}
+use Rattle.mb_stream.specs.Payload.{Entry, Heard, Silent}
 use Rattle.mb_stream.specs.Told.{Known, Notes}
 use Rattle.mb_stream.proofs.LiteralMarks.{heard_bytes, heard_from-bytes}
 use Rattle.mb_usb.specs.Packets.{packet, padded}
@@ -98,7 +97,7 @@ carried-from cable at [] g = refl
 carried-from cable at (x ∷ xs) g =
     let rest : List Entry = flat_map (λ p. if cable_of p == cable then carried p else []) (packets_at_from cable (at + 4) xs) in
     ap (λ t. heard_bytes ((if t then carried (packet_at cable at x) else []) ++ rest))
-      (eq-eqb (cable_of (packet_at cable at x)) cable (cable-packet cable at x g.0.low))
+    (eq-eqb (cable_of (packet_at cable at x)) cable (cable-packet cable at x g.0.low))
     ∙ (heard_bytes-append (carried (packet_at cable at x)) rest
     ∙ ap₂ (λ bs cs. bs ++ cs) (carried-packet cable at x g.0) (carried-from cable (at + 4) xs g.1))
 
@@ -112,7 +111,7 @@ unit-none cable at x g =
     let p : Packet = packet_at cable at x in
     let mismatch : Known = record { at = at + 3; rank = 4; moment = 0; told = Notes at CinMismatch } in
     ap (λ t. if t then record { at = at; rank = 4; moment = 0; told = Notes at ReservedCin } ∷ [] else (if suits_packet p then [] else mismatch ∷ []))
-      (lt-leb (cin_of p) 1 (subst (λ n. 1 < n) (sym (cin-packet cable at x g.low)) g.unreserved))
+    (lt-leb (cin_of p) 1 (subst (λ n. 1 < n) (sym (cin-packet cable at x g.low)) g.unreserved))
     ∙ ap (λ t. if t then [] else mismatch ∷ []) (ap (λ n. suits_rest n (padded x.bytes)) (cin-packet cable at x g.low) ∙ g.suits)
 
 units-none : (cable at : ℕ) (xs : List Cut) → AreGood xs → flat_map unit_note (packets_at_from cable at xs) ≡ []

@@ -1,16 +1,15 @@
 -- The reading of a cable has the marks that are read of its payload's bytes: notes on packets stand beside them.
-use Rattle.std.proofs.Common.{◌≡◌, ℕ, ◌+◌, ◌≤◌, Bool, true, false, ◌==◌, nat_le, if◌then◌else◌, List, [], ◌∷◌, ◌++◌, length, take, map, flat_map, refl, sym, ap, ap₂, ◌∙◌, subst, arith, length-take-le, length-take, append-nil}
+use Rattle.std.proofs.Common.{◌≡◌, ℕ, ◌+◌, ◌≤◌, Bool, true, false, ◌==◌, nat_le, if◌then◌else◌, List, [], ◌∷◌, ◌++◌, length, take, flat_map, refl, sym, ap, ap₂, ◌∙◌, arith, length-take, append-nil}
 use Rattle.std.proofs.lemmas.List.Concat.{flat_map-append}
-use Rattle.mb_message.specs.Signs.{Sign}
 use Rattle.mb_message.specs.declared.note.NoteKind.TheVariants.{ReservedCin, CinMismatch}
 use Rattle.mb_stream.specs.Payload.{Entry, Heard, Silent, heard_from}
 use Rattle.mb_stream.specs.Told.{Known, Notes}
 use Rattle.mb_stream.specs.Order.{in_order}
-use Rattle.mb_stream.specs.Reading.{part_of, payload_told, so_far, end_part, sign_in, note_in, signs_of, notes_of}
+use Rattle.mb_stream.specs.Reading.{payload_told, end_part, sign_in, note_in, signs_of, notes_of}
 use Rattle.mb_stream.specs.Working.{RisesFrom}
-use Rattle.mb_stream.proofs.Machine.{Rest, ends, tell, read, behind, Clean, read-tell}
+use Rattle.mb_stream.proofs.Machine.{Rest, read, Clean, read-tell}
 use Rattle.mb_stream.proofs.OrderedMarks.{marked, marked-append, signs-beside}
-use Rattle.mb_stream.proofs.LiteralMarks.{AllHeard, heard_bytes, heard_from-all, parts-signs, parts-notes, so_far-signs, so_far-notes, end_part-signs, end_part-notes, NewsLaw}
+use Rattle.mb_stream.proofs.LiteralMarks.{AllHeard, heard_bytes, heard_from-all, parts-signs, parts-notes, so_far-signs, so_far-notes, end_part-signs, end_part-notes}
 use Rattle.mb_usb.specs.Reading.{Packet, cable_of, cin_of, packets_from, packets, used, carried, cable_payload, suits_packet, unit_note, usb_told, usb_so_far, usb_reading}
 
 AllHeard-append : (xs ys : List Entry) → AllHeard xs → AllHeard ys → AllHeard (xs ++ ys)
@@ -40,8 +39,8 @@ packet_rises cable at head bs es few h =
     let Goal : Bool → Type 0 = λ c. RisesFrom at ((if c then carried p else []) ++ es) in
     let taken : List ℕ = take (used (cin_of p)) bs in
     let here : RisesFrom (at + 1) (heard_from (at + 1) 0 taken ++ es) =
-      RisesFrom-heard (at + 1) 0 taken es
-        (RisesFrom-lower (at + 1 + length taken) (at + 4) es (omega (arith, length-take (used (cin_of p)) bs)) h) in
+    RisesFrom-heard (at + 1) 0 taken es
+    (RisesFrom-lower (at + 1 + length taken) (at + 4) es (omega (arith, length-take (used (cin_of p)) bs)) h) in
     elim (cable_of p == cable) as Goal [
       | true ↦ RisesFrom-lower at (at + 1) (carried p ++ es) (omega arith) here
       | false ↦ RisesFrom-lower at (at + 4) es (omega arith) h
@@ -85,27 +84,27 @@ units_marked [] = refl
 units_marked (p ∷ ps) = marked-append (unit_note p) (flat_map unit_note ps) ∙ ap₂ (λ ks ls. ks ++ ls) (unit_marked p) (units_marked ps)
 
 -- of any bytes
-pub usb-signs : (law : NewsLaw) → (cable : ℕ) (bytes : List ℕ) → signs_of (usb_reading cable bytes) ≡ read Rest (heard_bytes (cable_payload cable bytes))
-usb-signs law cable bytes =
+pub usb-signs : (cable : ℕ) (bytes : List ℕ) → signs_of (usb_reading cable bytes) ≡ read Rest (heard_bytes (cable_payload cable bytes))
+usb-signs cable bytes =
     let es : List Entry = cable_payload cable bytes in
     let units : List Known = flat_map unit_note (packets bytes) in
     flat_map-append (λ p. sign_in p.told) (usb_so_far cable bytes) (end_part 0 es)
     ∙ (ap₂ (λ ms ns. ms ++ ns)
-      (parts-signs (in_order (λ k. k) (payload_told es ++ units))
-      ∙ (signs-beside (payload_told es) units (units_marked (packets bytes))
-      ∙ so_far-signs law 0 es (payload-rises cable bytes) (payload-heard cable bytes)))
-      (end_part-signs law 0 es (payload-heard cable bytes))
+    (parts-signs (in_order (λ k. k) (payload_told es ++ units))
+    ∙ (signs-beside (payload_told es) units (units_marked (packets bytes))
+    ∙ so_far-signs 0 es (payload-rises cable bytes) (payload-heard cable bytes)))
+    (end_part-signs 0 es (payload-heard cable bytes))
     ∙ sym (read-tell Rest (heard_bytes es)))
 
 -- where no packet has a note, and the bytes that are carried have none
-pub usb-notes : (law : NewsLaw) → (cable : ℕ) (bytes : List ℕ) → flat_map unit_note (packets bytes) ≡ [] → Clean Rest (heard_bytes (cable_payload cable bytes)) →
+pub usb-notes : (cable : ℕ) (bytes : List ℕ) → flat_map unit_note (packets bytes) ≡ [] → Clean Rest (heard_bytes (cable_payload cable bytes)) →
     notes_of (usb_reading cable bytes) ≡ []
-usb-notes law cable bytes none clean =
+usb-notes cable bytes none clean =
     let es : List Entry = cable_payload cable bytes in
     let told : usb_told cable bytes ≡ payload_told es = ap (λ ks. payload_told es ++ ks) none ∙ append-nil (payload_told es) in
     flat_map-append (λ p. note_in p.told) (usb_so_far cable bytes) (end_part 0 es)
     ∙ ap₂ (λ ms ns. ms ++ ns)
-      (parts-notes (in_order (λ k. k) (usb_told cable bytes))
-      ∙ (ap (λ ks. flat_map (λ k. note_in k.told) (in_order (λ k. k) ks)) told
-      ∙ so_far-notes law 0 es (payload-rises cable bytes) (payload-heard cable bytes) clean))
-      (end_part-notes law 0 es (payload-heard cable bytes) clean)
+    (parts-notes (in_order (λ k. k) (usb_told cable bytes))
+    ∙ (ap (λ ks. flat_map (λ k. note_in k.told) (in_order (λ k. k) ks)) told
+    ∙ so_far-notes 0 es (payload-rises cable bytes) (payload-heard cable bytes) clean))
+    (end_part-notes 0 es (payload-heard cable bytes) clean)

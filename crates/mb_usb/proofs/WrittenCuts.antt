@@ -1,16 +1,11 @@
 -- The packets that the running form writes, as their numbers and bytes.
-use Rattle.std.proofs.Common.{◌≡◌, ℕ, suc, ◌+◌, ◌*◌, ◌/◌, ◌<◌, ◌≤◌, Bool, true, false, not, ◌&&◌, ◌||◌, ◌==◌, nat_lt, nat_le, if◌then◌else◌, List, [], ◌∷◌, ◌++◌, map, length, Option, Some, None, flat_map, refl, sym, ap, ap₂, ◌∙◌, subst, subst₂, arith, length-append, append_assoc, append-nil}
+use Rattle.std.proofs.Common.{◌≡◌, ℕ, suc, ◌+◌, ◌≤◌, Bool, true, false, ◌==◌, if◌then◌else◌, List, [], ◌∷◌, ◌++◌, map, length, flat_map, refl, sym, ap, ap₂, ◌∙◌, arith, length-append, append_assoc}
 use Rattle.std.proofs.lemmas.List.Concat.{flat_map-append}
-use Rattle.std.proofs.lemmas.Bool.{agree_below_at, and_parts, and_from, eqb-true, false≢true}
-use Rattle.mb_message.specs.Bytes.{is_data, data_length, length_of_short}
 use Rattle.mb_message.specs.Signs.{Sign, ShortSign, RtSign, OpenSign, ByteSign, EndSign, AbortSign}
-use Rattle.mb_stream.specs.Spelling.{data_of, data_by_length}
-use Rattle.mb_stream.proofs.ByteKinds.{Need, One, Two, Kind, DataKind, ChannelKind, CommonKind, TuneKind, StartKind, EndKind, OtherKind, RtKind, OtherRtKind, kind, facts, length_of_kind}
-use Rattle.mb_stream.proofs.Suits.{Suit, Suits_sign, Fits_kind, Fits_need, data-kind}
-use Rattle.mb_usb.specs.Packets.{packet, padded, cin_of_short, single}
-use Rattle.mb_usb.specs.Running.{pending_after, packets_at, usb_at, usb_from, pending_from}
-use Rattle.mb_usb.specs.Reading.{used, suits_cin, suits_rest, starts_or_goes_on}
-use Rattle.mb_usb.proofs.PacketFacts.{Cut, cut, packet_of, IsGood, AreGood, AreGood-append, written, cut_bytes}
+use Rattle.mb_stream.specs.Spelling.{data_of}
+use Rattle.mb_usb.specs.Packets.{packet, cin_of_short, single}
+use Rattle.mb_usb.specs.Running.{pending_after, usb_at, usb_from, pending_from}
+use Rattle.mb_usb.proofs.PacketFacts.{Cut, cut, packet_of, written, cut_bytes}
 use Rattle.mb_usb.proofs.HeldBytes.{held_back}
 
 abbrev pub singles : List ℕ → List Cut
@@ -40,8 +35,8 @@ at-written cable p (RtSign b) = refl
 at-written cable p OpenSign = refl
 at-written cable p (ByteSign b) =
     let Goal : Bool → Type 0 = λ c.
-      flat_map (λ bytes. bytes) (if c then packet cable 4 (p ++ b ∷ []) ∷ [] else [])
-      ≡ written cable (if c then cut 4 (p ++ b ∷ []) ∷ [] else []) in
+    flat_map (λ bytes. bytes) (if c then packet cable 4 (p ++ b ∷ []) ∷ [] else [])
+    ≡ written cable (if c then cut 4 (p ++ b ∷ []) ∷ [] else []) in
     elim (length p == 2) as Goal [ true ↦ refl | false ↦ refl ]
 at-written cable p EndSign = refl
 at-written cable p AbortSign = singles-written cable p
@@ -71,8 +66,8 @@ cuts-bytes p (RtSign b ∷ ms) = ap (λ bs. b ∷ bs) (cuts-bytes p ms)
 cuts-bytes p (OpenSign ∷ ms) = cuts-bytes (0xf0 ∷ []) ms
 cuts-bytes p (ByteSign b ∷ ms) =
     let Goal : Bool → Type 0 = λ c.
-      cut_bytes ((if c then cut 4 (p ++ b ∷ []) ∷ [] else []) ++ cuts (if c then [] else p ++ b ∷ []) ms)
-      ≡ (if c then p ++ b ∷ held_back [] ms else held_back (p ++ b ∷ []) ms) in
+    cut_bytes ((if c then cut 4 (p ++ b ∷ []) ∷ [] else []) ++ cuts (if c then [] else p ++ b ∷ []) ms)
+    ≡ (if c then p ++ b ∷ held_back [] ms else held_back (p ++ b ∷ []) ms) in
     elim (length p == 2) as Goal [
       | true ↦ ap (λ bs. (p ++ b ∷ []) ++ bs) (cuts-bytes [] ms) ∙ append_assoc p (b ∷ []) (held_back [] ms)
       | false ↦ cuts-bytes (p ++ b ∷ []) ms
@@ -93,7 +88,7 @@ length-cuts p (RtSign b ∷ ms) = omega (arith, length-cuts p ms)
 length-cuts p (OpenSign ∷ ms) = omega (arith, length-cuts (0xf0 ∷ []) ms)
 length-cuts p (ByteSign b ∷ ms) =
     let Goal : Bool → Type 0 = λ c.
-      length ((if c then cut 4 (p ++ b ∷ []) ∷ [] else []) ++ cuts (if c then [] else p ++ b ∷ []) ms) ≤ suc (length ms) + length p in
+    length ((if c then cut 4 (p ++ b ∷ []) ∷ [] else []) ++ cuts (if c then [] else p ++ b ∷ []) ms) ≤ suc (length ms) + length p in
     elim (length p == 2) as Goal [
       | true ↦ omega (arith, length-cuts [] ms)
       | false ↦ omega (arith, length-cuts (p ++ b ∷ []) ms, length-append p (b ∷ []))
