@@ -116,10 +116,7 @@ impl UsbWriter {
         ensures len { array_vec_len out.new ≤ array_vec_len out.old + PUT_ROOM }
     {
         match ev {
-            Ev::Short(short) => {
-                self.sysex = Sysex::Closed;
-                put_short(self.cable, short, out);
-            }
+            Ev::Short(short) => put_short(self.cable, short, out),
             Ev::Rt(message) => put_single(self.cable, message.byte(), out),
             Ev::Open => self.sysex = Sysex::One(0xf0),
             Ev::Run(bytes) => self.sysex = put_run(self.cable, self.sysex, bytes, out),
