@@ -4,9 +4,12 @@
 //! definitions of mb_stream say of the whole line. It keeps at most two bytes of a message, lends System Exclusive data
 //! as parts of the caller's piece, never grows, and refuses nothing: bytes that carry no message are told as notes.
 #![tactic(auto)]
+
 pub mod laws;
 mod progress;
 mod reader;
+
 pub use reader::DinReader;
+
 #[cfg(test)]
 mod tests;
