@@ -14,6 +14,4 @@ pub mod ReadMarks
 pub mod SpelledMarks
 pub mod Suits
 pub mod OrderedMarks
-mod Examples
-pub mod StandingLemmas
 pub mod WorkingForm
