@@ -1,1 +1,3 @@
 mod Examples
+pub mod RunLemmas
+pub mod TurnLemmas

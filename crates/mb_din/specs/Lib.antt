@@ -1,1 +1,5 @@
+pub mod Reader
 pub mod Recording
+pub mod Written
+pub mod State
+pub mod Turn

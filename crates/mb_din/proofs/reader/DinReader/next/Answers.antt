@@ -1,0 +1,22 @@
+use Rattle.mb_din.proofs.TurnLemmas.{front_of, end_of, none_of, falls_of, longest_of}
+use Rattle.mb_din.proofs.reader.DinReader.next.Goals as goal
+
+pub returns-clause-front : goal.returns-clause-front
+returns-clause-front c =
+    front_of c.args.self.now c.advance.new.self c.args.input.now.now c.advance.new.input.now c.advance.ensures.left c.advance.ensures.behind
+
+pub returns-clause-none : goal.returns-clause-none
+returns-clause-none c =
+    none_of c.advance.result c.args.self.now c.args.input.now.now c.advance.new.input.now c.advance.ensures.told c.advance.ensures.left
+
+pub returns-clause-longest : goal.returns-clause-longest
+returns-clause-longest c =
+    longest_of c.advance.result c.args.self.now c.args.input.now.now c.advance.new.input.now c.advance.ensures.some c.advance.ensures.told c.advance.ensures.left
+
+pub returns-clause-progress : goal.returns-clause-progress
+returns-clause-progress c =
+    falls_of c.advance.result c.args.self.now c.args.input.now.now c.advance.new.input.now c.advance.new.self c.advance.ensures.some c.advance.ensures.told c.advance.ensures.left c.advance.ensures.behind
+
+pub returns-clause-end : goal.returns-clause-end
+returns-clause-end c =
+    end_of c.args.self.now c.advance.new.self c.args.input.now.now c.advance.new.input.now (returns-clause-front c)

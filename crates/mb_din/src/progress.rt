@@ -1,0 +1,227 @@
+//! What the line so far has begun, and what one more byte makes of it.
+
+ghost use Rattle.std.specs.Prelude.{◌≡◌, true, false, [], ◌∷◌, None, position, nat_le, OnSome};
+ghost use Rattle.mb_message.specs.Bytes.{is_data, is_realtime, is_short, data_length};
+ghost use Rattle.mb_message.specs.Signs.{ShortSign};
+ghost use Rattle.mb_stream.specs.Told.{Marks, Notes};
+ghost use Rattle.mb_din.specs.State.{is_sound, lacks_one};
+ghost use Rattle.mb_din.specs.Turn.{answer, told_by, is_one, whole, first_step, data_step, status_step, told_before, told_at_end, end_told, realtime_told, data_front, data_rest};
+
+use mb_message::{Ev, Note, NoteKind, Rt, Seen, Short, data_len};
+
+/// What the line so far has begun.
+#[derive(Clone, Copy, Debug, PartialEq, Eq)]
+pub(crate) enum Progress {
+    /// Nothing: a data byte here belongs to no message.
+    Idle,
+    /// A channel status runs, and no message of it is begun: the next data byte begins one.
+    Running(u8),
+    /// A message that lacks data. A note on it, if it stays so, is about the byte at `at`.
+    Begun {
+        status: u8,
+        first: Option<u8>,
+        at: u64,
+    },
+    /// System Exclusive: F0 stands, and no other status since.
+    InSysex,
+}
+
+/// What a byte made of it, once it is taken.
+#[derive(Clone, Copy, Debug)]
+pub(crate) struct Step {
+    pub progress: Progress,
+    pub told: Option<Seen<'static>>,
+}
+
+#[inline(always)]
+fn note(kind: NoteKind, at: u64) -> Seen<'static>
+    ensures { told_by result ≡ Notes at kind ∷ [] }
+{
+    Seen::Note(Note { kind, at })
+}
+
+#[inline(always)]
+fn short(status: u8, data1: u8, data2: u8) -> Seen<'static>
+    requires { is_short status data1 data2 ≡ true }
+    ensures { told_by result ≡ Marks (ShortSign status data1 data2) ∷ [] }
+{
+    Seen::Ev(Ev::Short(Short::new(status, data1, data2).unwrap()))
+}
+
+/// Behind a whole message only a channel status runs on.
+#[inline(always)]
+fn behind_whole(status: u8) -> Progress
+    requires { is_data status ≡ false }
+    ensures { result ≡ whole status }
+{
+    if status < 0xf0 {
+        Progress::Running(status)
+    } else {
+        Progress::Idle
+    }
+}
+
+/// The first data byte of a message, which stands at `at`: a message of one data byte is whole with it.
+#[inline(always)]
+fn take_first(status: u8, whole: Progress, at: u64, byte: u8) -> Step
+    requires lacks { lacks_one (data_length status) None ≡ true }
+    requires sound { is_sound whole ≡ true }
+    requires is_data { is_data byte ≡ true }
+    ensures progress { result.progress ≡ (first_step (is_one (data_length status)) whole status at byte).progress }
+    ensures told { answer result.told ≡ (first_step (is_one (data_length status)) whole status at byte).told }
+    ensures some { OnSome result.told (answer result.told ≡ [] → ⊥) }
+    ensures sound { is_sound result.progress ≡ true }
+{
+    match data_len(status) {
+        Some(1) => Step {
+            progress: whole,
+            told: Some(short(status, byte, 0)),
+        },
+        _ => Step {
+            progress: Progress::Begun {
+                status,
+                first: Some(byte),
+                at,
+            },
+            told: None,
+        },
+    }
+}
+
+/// A data byte outside SysEx, at its offset.
+#[inline(always)]
+pub(crate) fn take_data(progress: Progress, at: u64, byte: u8) -> Step
+    requires sound { is_sound progress ≡ true }
+    requires is_data { is_data byte ≡ true }
+    ensures progress { result.progress ≡ (data_step progress at byte).progress }
+    ensures told { answer result.told ≡ (data_step progress at byte).told }
+    ensures some { OnSome result.told (answer result.told ≡ [] → ⊥) }
+    ensures sound { is_sound result.progress ≡ true }
+{
+    match progress {
+        Progress::Running(status) => take_first(status, progress, at, byte),
+        Progress::Begun {
+            status,
+            first: None,
+            at: begun,
+        } => take_first(status, behind_whole(status), begun, byte),
+        Progress::Begun {
+            status,
+            first: Some(first),
+            ..
+        } => Step {
+            progress: behind_whole(status),
+            told: Some(short(status, first, byte)),
+        },
+        Progress::Idle | Progress::InSysex => Step {
+            progress: Progress::Idle,
+            told: Some(note(NoteKind::StrayData, at)),
+        },
+    }
+}
+
+/// A real-time byte tells itself, and changes nothing.
+#[inline(always)]
+pub(crate) fn realtime(at: u64, byte: u8) -> Seen<'static>
+    requires { is_realtime byte ≡ true }
+    ensures { told_by result ≡ realtime_told at byte ∷ [] }
+{
+    match Rt::new(byte) {
+        Some(message) => Seen::Ev(Ev::Rt(message)),
+        None => note(NoteKind::Undefined, at),
+    }
+}
+
+/// What a status makes known of earlier bytes, before it is taken.
+#[inline(always)]
+pub(crate) fn before_status(progress: Progress, byte: u8) -> Option<Seen<'static>>
+    ensures told { answer result ≡ told_before progress byte }
+    ensures some { OnSome result (answer result ≡ [] → ⊥) }
+{
+    match progress {
+        Progress::Begun { at, .. } => Some(note(NoteKind::Truncated, at)),
+        Progress::InSysex if byte != 0xf7 => Some(Seen::Ev(Ev::Abort)),
+        _ => None,
+    }
+}
+
+/// What only the end makes known.
+#[inline(always)]
+pub(crate) fn at_end(progress: Progress) -> Option<Seen<'static>>
+    ensures { answer result ≡ told_at_end progress }
+{
+    match progress {
+        Progress::Begun { at, .. } => Some(note(NoteKind::Truncated, at)),
+        Progress::InSysex => Some(Seen::Ev(Ev::Abort)),
+        _ => None,
+    }
+}
+
+/// A status that made nothing known of earlier bytes, at its offset.
+#[inline(always)]
+pub(crate) fn take_status(progress: Progress, at: u64, byte: u8) -> Step
+    requires is_status { is_data byte ≡ false }
+    requires is_no_realtime { is_realtime byte ≡ false }
+    ensures progress { result.progress ≡ (status_step progress at byte).progress }
+    ensures told { answer result.told ≡ (status_step progress at byte).told }
+    ensures some { OnSome result.told (answer result.told ≡ [] → ⊥) }
+    ensures sound { is_sound result.progress ≡ true }
+{
+    match byte {
+        0xf7 => Step {
+            progress: Progress::Idle,
+            told: Some(end(progress, at)),
+        },
+        0xf0 => Step {
+            progress: Progress::InSysex,
+            told: Some(Seen::Ev(Ev::Open)),
+        },
+        0xf6 => Step {
+            progress: Progress::Idle,
+            told: Some(short(0xf6, 0, 0)),
+        },
+        0xf4 | 0xf5 => Step {
+            progress: Progress::Idle,
+            told: Some(note(NoteKind::Undefined, at)),
+        },
+        _ => Step {
+            progress: Progress::Begun {
+                status: byte,
+                first: None,
+                at,
+            },
+            told: None,
+        },
+    }
+}
+
+/// What an F7 tells.
+#[inline(always)]
+fn end(progress: Progress, at: u64) -> Seen<'static>
+    ensures { told_by result ≡ end_told progress at ∷ [] }
+{
+    match progress {
+        Progress::InSysex => Seen::Ev(Ev::End),
+        _ => note(NoteKind::StrayEnd, at),
+    }
+}
+
+/// Where the first byte stands that is no data byte.
+#[inline(always)]
+fn first_other(bytes: &[u8]) -> Option<usize>
+    ensures { result ≡ position (nat_le 0x80) bytes.now }
+{
+    bytes.iter().position(|byte| *byte >= 0x80)
+}
+
+/// The longest run of data bytes at the front of the input, which is taken from it.
+#[inline(always)]
+pub(crate) fn take_run<'a>(input: &mut &'a [u8]) -> &'a [u8]
+    ensures run { result.now ≡ data_front input.old.now }
+    ensures left { input.new.now ≡ data_rest input.old.now }
+{
+    let length = first_other(input).unwrap_or(input.len());
+    let (run, rest) = input.split_at(length);
+    *input = rest;
+    run
+}

@@ -1,0 +1,183 @@
+//! The reader of the byte line.
+
+ghost use Rattle.std.specs.Prelude.{◌≡◌, ◌+◌, ◌*◌, ◌<◌, ◌≤◌, ◌^◌, true, [], ◌∷◌, ◌++◌, ℕ, List, length, OnSome, IfSome, IfNone};
+ghost use Rattle.mb_message.specs.Bytes.{is_channel};
+ghost use Rattle.mb_din.specs.State.{owed, open_now, may_run_now, fresh, is_sound};
+ghost use Rattle.mb_din.specs.Turn.{answer, told_by, told_at_end, one, run, turn};
+ghost use Rattle.mb_din.specs.Reader.{IsFrontTaken, IsLongest};
+
+use crate::progress::{
+    Progress, at_end, before_status, realtime, take_data, take_run, take_status,
+};
+use mb_message::{Ev, Seen};
+use std::marker::Model;
+
+/// Reads a byte line that comes in pieces.
+#[derive(Drop)]
+pub struct DinReader {
+    offset: u64,
+    progress: Progress,
+}
+
+impl Model for DinReader {
+    ghost use Rattle.std.specs.Prelude.{◌≡◌, true};
+    ghost use Rattle.mb_din.specs.State.{State, is_sound};
+
+    ghost Value = { State };
+
+    ghost view = { λ r. record { offset = r.offset; progress = r.progress } };
+
+    ghost invariant = { λ r. is_sound r.progress ≡ true };
+}
+
+impl DinReader {
+    /// The next byte has offset 0.
+    pub fn new() -> DinReader
+        ensures state { result ≡ fresh }
+    {
+        DinReader {
+            offset: 0,
+            progress: Progress::Idle,
+        }
+    }
+
+    /// The next byte has this offset.
+    pub fn place(&mut self, offset: u64)
+        requires { self.old.offset ≤ offset }
+        ensures offset { self.new.offset ≡ offset }
+        ensures progress { self.new.progress ≡ self.old.progress }
+    {
+        self.offset = offset;
+    }
+
+    /// The next mark or note of the bytes that were taken and of the input, which it takes from the front of the input.
+    /// What a byte makes known of earlier ones is told while it still stands in the input. `None` comes where the input
+    /// is used up and all of it is told. A run is lent from the input, and is never empty.
+    #[inline(always)]
+    pub fn next<'a>(&mut self, input: &mut &'a [u8]) -> Option<Seen<'a>>
+        requires early { self.old.offset + length input.old.now < 2 ^ 63 }
+        ensures front { IsFrontTaken self.old self.new input.old.now input.new.now }
+        ensures end { self.new.offset + length input.new.now ≡ self.old.offset + length input.old.now }
+        ensures some { OnSome result (answer result ≡ [] → ⊥) }
+        ensures none { IfNone result (input.new.now ≡ []) }
+        ensures longest { IfSome result (IsLongest input.new.now) }
+
+        // A caller's loop ends by this.
+        ensures progress { OnSome result (2 * length input.new.now + owed self.new < 2 * length input.old.now + owed self.old) }
+    {
+        self.advance(input)
+    }
+
+    /// What only the end of the line makes known: a message that was begun and not finished, or an open SysEx. The
+    /// reader then stands as a fresh one does, for bytes from its present offset on.
+    pub fn finish(&mut self) -> Option<Seen<'static>>
+        ensures state { answer result ≡ told_at_end self.old.progress }
+        ensures as_fresh { self.new ≡ record fresh { offset = self.old.offset } }
+    {
+        let told = at_end(self.progress);
+        self.progress = Progress::Idle;
+        told
+    }
+
+    /// A channel status, 80 to EF, runs from here on without a byte of its own.
+    pub fn resume(&mut self, status: u8)
+        requires { is_channel status ≡ true }
+        ensures offset { self.new.offset ≡ self.old.offset }
+        ensures runs { may_run_now self.new ≡ true }
+    {
+        self.progress = Progress::Running(status);
+    }
+
+    /// Whether the next data byte would begin a message of a running status. Right after a status byte it would not,
+    /// since that message is begun.
+    #[inline(always)]
+    pub fn may_run(&self) -> bool
+        ensures state { result ≡ may_run_now self.now }
+    {
+        matches!(self.progress, Progress::Running(_))
+    }
+
+    /// Whether a SysEx is open.
+    #[inline(always)]
+    pub fn in_sysex(&self) -> bool
+        ensures state { result ≡ open_now self.now }
+    {
+        matches!(self.progress, Progress::InSysex)
+    }
+
+    /// `next`, exactly.
+    #[inline(always)]
+    fn advance<'a>(&mut self, input: &mut &'a [u8]) -> Option<Seen<'a>>
+        requires early { self.old.offset + length input.old.now < 2 ^ 63 }
+        ensures told { answer result ≡ (turn self.old input.old.now).told }
+        ensures left { input.new.now ≡ (turn self.old input.old.now).left }
+        ensures behind { self.new ≡ (turn self.old input.old.now).behind }
+        ensures some { OnSome result (answer result ≡ [] → ⊥) }
+    {
+        while let Some((byte, rest)) = input.split_first() {
+            if let Some(seen) = self.take(*byte, rest, input) {
+                return Some(seen);
+            }
+        }
+        None
+    }
+
+    /// What the first byte of the input tells, if it tells anything.
+    #[inline(always)]
+    fn take<'a>(&mut self, byte: u8, rest: &'a [u8], input: &mut &'a [u8]) -> Option<Seen<'a>>
+        requires first { input.old.now ≡ byte ∷ rest.now }
+        requires early { self.old.offset + length input.old.now < 2 ^ 63 }
+        ensures told { answer result ≡ (one self.old byte rest.now).told }
+        ensures left { input.new.now ≡ (one self.old byte rest.now).left }
+        ensures behind { self.new ≡ (one self.old byte rest.now).behind }
+        ensures some { OnSome result (answer result ≡ [] → ⊥) }
+    {
+        if byte < 0x80 {
+            if let Progress::InSysex = self.progress {
+                return Some(self.lend_run(input));
+            }
+            let step = take_data(self.progress, self.offset, byte);
+            self.pass(step.progress);
+            *input = rest;
+            return step.told;
+        }
+        if byte >= 0xf8 {
+            let seen = realtime(self.offset, byte);
+            self.pass(self.progress);
+            *input = rest;
+            return Some(seen);
+        }
+        if let Some(seen) = before_status(self.progress, byte) {
+            self.progress = Progress::Idle;
+            return Some(seen);
+        }
+        let step = take_status(self.progress, self.offset, byte);
+        self.pass(step.progress);
+        *input = rest;
+        step.told
+    }
+
+    /// One byte was taken, and made this of what the line so far has begun.
+    #[inline(always)]
+    fn pass(&mut self, progress: Progress)
+        requires sound { is_sound progress ≡ true }
+        requires early { self.old.offset < 2 ^ 63 }
+        ensures { self.new ≡ record { offset = self.old.offset + 1; progress = progress } }
+    {
+        self.progress = progress;
+        self.offset += 1;
+    }
+
+    /// In an open SysEx, its data bytes at the front of the input.
+    #[inline(always)]
+    fn lend_run<'a>(&mut self, input: &mut &'a [u8]) -> Seen<'a>
+        requires early { self.old.offset + length input.old.now < 2 ^ 63 }
+        ensures told { told_by result ≡ (run self.old input.old.now).told }
+        ensures left { input.new.now ≡ (run self.old input.old.now).left }
+        ensures behind { self.new ≡ (run self.old input.old.now).behind }
+    {
+        let data = take_run(input);
+        self.offset += data.len() as u64;
+        Seen::Ev(Ev::Run(data))
+    }
+}

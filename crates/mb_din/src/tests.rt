@@ -1,0 +1,56 @@
+use super::*;
+use mb_message::{Ev, Note, NoteKind, Rt, Seen, Short};
+use std::test::Fail;
+
+#[test]
+fn a_clock_and_running_status(rt: HostRuntime) -> Result<(), Fail> {
+    let mut reader = DinReader::new();
+    let mut input: &[u8] = &[0x90, 0xf8, 0x3c, 0x64, 0x40];
+    let clock = Rt::new(0xf8).ok_or("a clock")?;
+    assert_eq!(rt; reader.next(&mut input), Some(Seen::Ev(Ev::Rt(clock))));
+    let note = Short::new(0x90, 0x3c, 0x64).ok_or("a note")?;
+    assert_eq!(rt; reader.next(&mut input), Some(Seen::Ev(Ev::Short(note))));
+    assert!(rt; reader.may_run());
+    assert_eq!(rt; reader.next(&mut input), None);
+    assert!(rt; !reader.may_run());
+    let unfinished = Note {
+        kind: NoteKind::Truncated,
+        at: 4,
+    };
+    assert_eq!(rt; reader.finish(), Some(Seen::Note(unfinished)));
+    assert_eq!(rt; reader.finish(), None);
+    Ok(())
+}
+
+#[test]
+fn a_broken_sysex_and_a_resumed_status(rt: HostRuntime) -> Result<(), Fail> {
+    let mut reader = DinReader::new();
+    let mut input: &[u8] = &[0xf0, 1, 2, 0xf6];
+    assert_eq!(rt; reader.next(&mut input), Some(Seen::Ev(Ev::Open)));
+    assert!(rt; reader.in_sysex());
+    assert_eq!(rt; reader.next(&mut input), Some(Seen::Ev(Ev::Run(&[1, 2]))));
+    assert_eq!(rt; reader.next(&mut input), Some(Seen::Ev(Ev::Abort)));
+    assert!(rt; !reader.in_sysex() && input.len() == 1);
+    let tune = Short::new(0xf6, 0, 0).ok_or("a tune request")?;
+    assert_eq!(rt; reader.next(&mut input), Some(Seen::Ev(Ev::Short(tune))));
+    reader.resume(0xc1);
+    assert!(rt; reader.may_run());
+    let mut input: &[u8] = &[5];
+    let program = Short::new(0xc1, 5, 0).ok_or("a program change")?;
+    assert_eq!(rt; reader.next(&mut input), Some(Seen::Ev(Ev::Short(program))));
+    Ok(())
+}
+
+#[test]
+fn a_placed_byte_has_its_offset(rt: HostRuntime) -> Result<(), Fail> {
+    let mut reader = DinReader::new();
+    reader.place(9);
+    let mut input: &[u8] = &[0x3c];
+    let stray = Note {
+        kind: NoteKind::StrayData,
+        at: 9,
+    };
+    assert_eq!(rt; reader.next(&mut input), Some(Seen::Note(stray)));
+    assert_eq!(rt; reader.next(&mut input), None);
+    Ok(())
+}

@@ -1,0 +1,6 @@
+pub mod Cause
+pub mod Contents
+pub mod ContentsLaws
+pub mod Taking
+pub mod TakingLaws
+pub mod MemoryDesk

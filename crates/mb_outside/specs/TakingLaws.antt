@@ -1,0 +1,32 @@
+-- What was taken in two steps was taken.
+use Rattle.std.proofs.Common.{◌≡◌, ℕ, Bool, List, [], ◌++◌, IsTrue, refl, sym, ◌∙◌, ap, subst, append_assoc, take, drop}
+use Rattle.std.proofs.lemmas.List.{take-append-drop}
+use Rattle.mb_outside.specs.Contents.{Contents, after_write}
+use Rattle.mb_outside.specs.ContentsLaws.{after_write-none, after_write-twice}
+use Rattle.mb_outside.specs.Taking.{Wrote}
+
+pub Wrote-nothing : {S : Type 0} (tells : Bool) (contents : S → Contents) (read_faults : S → ℕ) (handle : ℕ) (at : S) → Wrote tells contents read_faults handle at [] at
+Wrote-nothing tells contents read_faults handle at =
+    record { contents_are = λ _. sym (after_write-none handle (contents at)); reads_same = refl }
+
+pub Wrote-both : {S : Type 0} (tells : Bool) (contents : S → Contents) (read_faults : S → ℕ) (handle : ℕ) (a b c : S) (x y : List ℕ) → Wrote tells contents read_faults handle a x b → Wrote tells contents read_faults handle b y c → Wrote tells contents read_faults handle a (x ++ y) c
+Wrote-both tells contents read_faults handle a b c x y ab bc =
+    record {
+      contents_are = λ told. bc.contents_are told ∙ (ap (after_write handle y) (ab.contents_are told) ∙ after_write-twice handle x y (contents a));
+      reads_same = bc.reads_same ∙ ab.reads_same;
+    }
+
+-- one more write of some first bytes of what is left
+pub Wrote-more : {S : Type 0} (tells : Bool) (contents : S → Contents) (read_faults : S → ℕ) (handle handle_now : ℕ) (start mid after : S) (piece rest left : List ℕ) (count : ℕ) →
+    ((done : List ℕ) × (piece ≡ done ++ rest) × Wrote tells contents read_faults handle start done mid) →
+    handle_now ≡ handle →
+    left ≡ drop count rest →
+    (IsTrue tells → contents after ≡ after_write handle_now (take count rest) (contents mid)) →
+    read_faults after ≡ read_faults mid →
+    (done : List ℕ) × (piece ≡ done ++ left) × Wrote tells contents read_faults handle start done after
+Wrote-more tells contents read_faults handle handle_now start mid after piece rest left count so_far same left_is wrote reads = (
+  so_far.0 ++ take count rest,
+  so_far.1 ∙ (ap (λ xs. so_far.0 ++ xs) (sym (take-append-drop count rest) ∙ ap (λ xs. take count rest ++ xs) (sym left_is)) ∙ sym (append_assoc so_far.0 (take count rest) left)),
+  Wrote-both tells contents read_faults handle start mid after so_far.0 (take count rest) so_far.2
+      (record { contents_are = subst (λ (h : ℕ). IsTrue tells → contents after ≡ after_write h (take count rest) (contents mid)) same wrote; reads_same = reads }),
+)

@@ -1,0 +1,20 @@
+//! All that touches the world: the words of a command line, the desk (what is read and written), and takers of bytes.
+//! What decides is elsewhere, and knows of the world only what the traits here say.
+#![tactic(auto)]
+
+mod args;
+mod desk;
+mod desk_out;
+mod memory_desk;
+mod out;
+mod real_desk;
+
+pub use args::Args;
+pub use desk::{Desk, Failed};
+pub use desk_out::DeskOut;
+pub use memory_desk::MemoryDesk;
+pub use out::{Out, Refused};
+pub use real_desk::RealDesk;
+
+#[cfg(test)]
+mod tests;
