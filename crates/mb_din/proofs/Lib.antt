@@ -1,3 +1,7 @@
 mod Examples
 pub mod RunLemmas
+pub mod StreamLaw
+pub mod StreamLemmas
 pub mod TurnLemmas
+pub mod WriterLemmas
+mod WrittenExamples

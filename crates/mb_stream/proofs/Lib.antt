@@ -1,3 +1,4 @@
 pub mod AppendedLemmas
+pub mod EventLemmas
 mod Examples
 pub mod StandingLemmas

@@ -1,4 +1,3 @@
-mod Events
 mod Examples
 pub mod Loops
 mod PacketPlaces
