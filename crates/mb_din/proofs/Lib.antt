@@ -1,3 +1,4 @@
+mod DinMarks
 mod Examples
 pub mod RunLemmas
 pub mod StreamLaw
