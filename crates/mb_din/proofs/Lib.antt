@@ -1,4 +1,8 @@
 mod DinMarks
 mod Examples
 pub mod RunLemmas
+pub mod StreamLaw
+pub mod StreamLemmas
 pub mod TurnLemmas
+pub mod WriterLemmas
+mod WrittenExamples

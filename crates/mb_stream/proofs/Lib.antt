@@ -1,4 +1,5 @@
 pub mod AppendedLemmas
+pub mod EventLemmas
 mod Examples
 pub mod StandingLemmas
 pub mod OrderLemmas
