@@ -1,3 +1,9 @@
+pub mod AppendedLemmas
+mod Examples
+pub mod StandingLemmas
+pub mod OrderLemmas
+pub mod GroupsLemmas
+pub mod NewsLaw
 pub mod ByteKinds
 pub mod Late
 pub mod Literal

@@ -1,6 +1,7 @@
 mod CarrierLaws
 mod Events
 mod Examples
+pub mod Loops
 mod GoodCuts
 mod HeldBytes
 mod HeldClean
