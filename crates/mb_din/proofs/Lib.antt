@@ -1,5 +1,5 @@
 mod DinMarks
 mod Examples
-mod WrittenMarks
 pub mod RunLemmas
 pub mod TurnLemmas
+mod WrittenMarks

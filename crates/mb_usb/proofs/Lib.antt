@@ -1,10 +1,10 @@
 mod CarrierLaws
 mod Events
 mod Examples
-pub mod Loops
 mod GoodCuts
 mod HeldBytes
 mod HeldClean
+pub mod Loops
 mod PacketFacts
 mod PacketPlaces
 mod PayloadMarks
