@@ -6,3 +6,4 @@ pub mod StreamLemmas
 pub mod TurnLemmas
 pub mod WriterLemmas
 mod WrittenExamples
+mod WrittenMarks

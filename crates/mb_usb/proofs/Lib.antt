@@ -1,9 +1,9 @@
 mod CarrierLaws
 mod Examples
-pub mod Loops
 mod GoodCuts
 mod HeldBytes
 mod HeldClean
+pub mod Loops
 mod PacketFacts
 mod PacketPlaces
 mod PayloadMarks
