@@ -6,20 +6,13 @@ pub mod OrderLemmas
 pub mod GroupsLemmas
 pub mod NewsLaw
 pub mod ByteKinds
-mod Examples
-pub mod GroupsLemmas
 pub mod Late
 pub mod Literal
 pub mod LiteralMarks
 pub mod Machine
-pub mod NewsLaw
-pub mod OrderLemmas
 pub mod OrderedMarks
 pub mod ReadMarks
 pub mod SpelledMarks
 pub mod Suits
-pub mod OrderedMarks
 pub mod WorkingForm
 pub mod SpelledStep
-pub mod StandingLemmas
-pub mod Suits
