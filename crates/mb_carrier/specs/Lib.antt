@@ -1,4 +1,6 @@
 pub mod Carrier
 pub mod Conversion
+pub mod DinLaws
 pub mod Hop
+pub mod UsbLaws
 pub mod Word
