@@ -1,3 +1,9 @@
 mod Examples
+pub mod ByteNews
+pub mod Contract
+pub mod Law
+pub mod Rises
 pub mod RunLemmas
+pub mod Simulation
+pub mod StatusStep
 pub mod TurnLemmas
