@@ -1,2 +1,4 @@
 pub mod Carrier
+pub mod Conversion
+pub mod Hop
 pub mod Word

@@ -1,3 +1,4 @@
+mod DinMarks
 mod Examples
 pub mod ByteNews
 pub mod Contract
@@ -7,3 +8,4 @@ pub mod RunLemmas
 pub mod Simulation
 pub mod StatusStep
 pub mod TurnLemmas
+mod WrittenMarks

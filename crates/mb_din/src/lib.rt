@@ -5,6 +5,7 @@
 //! as parts of the caller's piece, never grows, and refuses nothing: bytes that carry no message are told as notes.
 #![tactic(auto)]
 
+pub mod laws;
 mod progress;
 mod reader;
 

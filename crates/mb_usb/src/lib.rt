@@ -4,6 +4,7 @@
 //! real-time message doesn't wait for them. The writer never grows and refuses nothing.
 #![tactic(auto)]
 
+pub mod laws;
 mod packet;
 mod writer;
 

@@ -1,9 +1,13 @@
 //! What a cable's events are written as.
 
-ghost use Rattle.std.specs.Prelude.{◌≡◌, ◌+◌, ◌*◌, ◌<◌, ◌≤◌, true, false, [], length};
+ghost use Rattle.std.specs.Prelude.{◌≡◌, ◌+◌, ◌*◌, ◌<◌, ◌≤◌, true, false, List, [], ◌++◌, length, map};
 ghost use Rattle.arrayvec.specs.ArrayVec.{array_vec_len};
-ghost use Rattle.mb_message.specs.Signs.{suits_event, IsShortRun, open_behind};
+ghost use Rattle.mb_message.specs.Signs.{Sign, ShortSign, ByteSign, EndSign, AbortSign, suits_event, IsShortRun, open_behind, signs_of_event};
+ghost use Rattle.mb_stream.specs.Appended.{Appended};
 ghost use Rattle.mb_usb.specs.Held.{held, opens};
+ghost use Rattle.mb_usb.specs.Running.{usb_at, usb_from, pending_from};
+ghost use Rattle.mb_usb.specs.Writer.{Stands, fresh};
+ghost use Rattle.mb_usb.specs.Written.{usb_live, usb_written};
 
 use crate::packet::{ENDS, GOES_ON, number_of_short, put_packet, put_single};
 use mb_message::{Buf, Ev, Short};
@@ -53,6 +57,7 @@ impl UsbWriter {
         requires { cable < 16 }
         ensures cable { result.cable ≡ cable }
         ensures in_sysex { result.in_sysex ≡ false }
+        ensures stands { Stands result [] }
     {
         UsbWriter {
             cable,
@@ -77,12 +82,41 @@ impl UsbWriter {
         ensures cable { self.new.cable ≡ self.old.cable }
         ensures in_sysex { self.new.in_sysex ≡ open_behind self.old.in_sysex ev.entry }
         ensures len { array_vec_len out.new ≤ array_vec_len out.old + PUT_ROOM }
+        ensures stands { (marks : List Sign) → Stands self.old marks → Stands self.new (marks ++ signs_of_event ev.entry) }
+        ensures written { (marks : List Sign) → Stands self.old marks →
+            Appended out.old.items out.new.items
+            (usb_live self.old.cable marks) (usb_live self.old.cable (marks ++ signs_of_event ev.entry)) }
+    {
+        self.write(ev, out);
+    }
+
+    /// Appends the bytes that wait, each by itself. Afterwards the writer is as new.
+    pub fn finish(&mut self, out: &mut Buf)
+        requires room { array_vec_len out.old + FINISH_ROOM ≤ 1024 }
+        ensures as_new { self.new ≡ fresh self.old.cable }
+        ensures len { array_vec_len out.new ≤ array_vec_len out.old + FINISH_ROOM }
+        ensures stands { Stands self.new [] }
+        ensures written { (marks : List Sign) → Stands self.old marks →
+            Appended out.old.items out.new.items (usb_live self.old.cable marks) (usb_written self.old.cable marks) }
+    {
+        put_rest(self.cable, self.sysex, out);
+        self.sysex = Sysex::Closed;
+    }
+
+    /// `put`, said mark by mark.
+    #[inline(always)]
+    fn write(&mut self, ev: Ev<'_>, out: &mut Buf)
+        requires room { array_vec_len out.old + PUT_ROOM ≤ 1024 }
+        requires suits { suits_event self.old.in_sysex ev ≡ true }
+        requires run { IsShortRun ev }
+        ensures cable { self.new.cable ≡ self.old.cable }
+        ensures in_sysex { self.new.in_sysex ≡ open_behind self.old.in_sysex ev.entry }
+        ensures pending { self.new.pending ≡ pending_from self.old.pending (signs_of_event ev.entry) }
+        ensures written { out.new.items ≡ out.old.items ++ usb_from self.old.cable self.old.pending (signs_of_event ev.entry) }
+        ensures len { array_vec_len out.new ≤ array_vec_len out.old + PUT_ROOM }
     {
         match ev {
-            Ev::Short(short) => {
-                self.sysex = Sysex::Closed;
-                put_short(self.cable, short, out);
-            }
+            Ev::Short(short) => put_short(self.cable, short, out),
             Ev::Rt(message) => put_single(self.cable, message.byte(), out),
             Ev::Open => self.sysex = Sysex::One(0xf0),
             Ev::Run(bytes) => self.sysex = put_run(self.cable, self.sysex, bytes, out),
@@ -96,17 +130,6 @@ impl UsbWriter {
             }
         }
     }
-
-    /// Appends the bytes that wait, each by itself. Afterwards the writer is as new.
-    pub fn finish(&mut self, out: &mut Buf)
-        requires room { array_vec_len out.old + FINISH_ROOM ≤ 1024 }
-        ensures cable { self.new.cable ≡ self.old.cable }
-        ensures in_sysex { self.new.in_sysex ≡ false }
-        ensures len { array_vec_len out.new ≤ array_vec_len out.old + FINISH_ROOM }
-    {
-        put_rest(self.cable, self.sysex, out);
-        self.sysex = Sysex::Closed;
-    }
 }
 
 /// Appends a short message.
@@ -114,6 +137,7 @@ impl UsbWriter {
 fn put_short(cable: u8, short: Short, out: &mut Buf)
     requires cable { cable < 16 }
     requires room { array_vec_len out.old + 4 ≤ 1024 }
+    ensures written { out.new.items ≡ out.old.items ++ usb_at cable [] (ShortSign short.status short.data1 short.data2) }
     ensures len { array_vec_len out.new ≡ array_vec_len out.old + 4 }
 {
     let number = number_of_short(short.status());
@@ -131,6 +155,8 @@ fn put_run(cable: u8, sysex: Sysex, bytes: &[u8], out: &mut Buf) -> Sysex
     requires cable { cable < 16 }
     requires room { 3 * array_vec_len out.old + 4 * (length bytes.now + 2) ≤ 3 * 1024 }
     ensures opened { 0 < length bytes.now → opens result ≡ true }
+    ensures waits { held result ≡ pending_from (held sysex) (map ByteSign bytes.now) }
+    ensures written { out.new.items ≡ out.old.items ++ usb_from cable (held sysex) (map ByteSign bytes.now) }
     ensures len { 3 * array_vec_len out.new ≤ 3 * array_vec_len out.old + 4 * (length bytes.now + 2) }
 {
     match sysex {
@@ -160,6 +186,8 @@ fn put_threes(cable: u8, bytes: &[u8], out: &mut Buf) -> Sysex
     requires cable { cable < 16 }
     requires room { 3 * array_vec_len out.old + 4 * length bytes.now ≤ 3 * 1024 }
     ensures opened { opens result ≡ true }
+    ensures waits { held result ≡ pending_from [] (map ByteSign bytes.now) }
+    ensures written { out.new.items ≡ out.old.items ++ usb_from cable [] (map ByteSign bytes.now) }
     ensures len { 3 * array_vec_len out.new ≤ 3 * array_vec_len out.old + 4 * length bytes.now }
 {
     let mut rest = bytes;
@@ -179,6 +207,7 @@ fn put_threes(cable: u8, bytes: &[u8], out: &mut Buf) -> Sysex
 fn put_end(cable: u8, sysex: Sysex, out: &mut Buf)
     requires cable { cable < 16 }
     requires room { array_vec_len out.old + 4 ≤ 1024 }
+    ensures written { out.new.items ≡ out.old.items ++ usb_at cable (held sysex) EndSign }
     ensures len { array_vec_len out.new ≡ array_vec_len out.old + 4 }
 {
     match sysex {
@@ -193,6 +222,7 @@ fn put_end(cable: u8, sysex: Sysex, out: &mut Buf)
 fn put_rest(cable: u8, sysex: Sysex, out: &mut Buf)
     requires cable { cable < 16 }
     requires room { array_vec_len out.old + 8 ≤ 1024 }
+    ensures written { out.new.items ≡ out.old.items ++ usb_at cable (held sysex) AbortSign }
     ensures len { array_vec_len out.new ≤ array_vec_len out.old + 8 }
 {
     match sysex {

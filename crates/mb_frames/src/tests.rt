@@ -1,0 +1,116 @@
+use super::*;
+use std::alloc::AllocError;
+use std::test::Fail;
+
+/// A part, its bytes one by one.
+#[derive(Clone, Copy, Debug, PartialEq, Eq)]
+enum Told {
+    Begin(u16),
+    Byte(u8),
+    End,
+}
+
+fn read(frames: &mut Frames, mut piece: &[u8], told: &mut Vec<Told>) -> Result<(), AllocError> {
+    while let Some(part) = frames.next(&mut piece) {
+        match part {
+            Part::Begin(length) => told.push(Told::Begin(length))?,
+            Part::Bytes(bytes) => {
+                for byte in bytes {
+                    told.push(Told::Byte(*byte))?;
+                }
+            }
+            Part::End => told.push(Told::End)?,
+        }
+    }
+    Ok(())
+}
+
+#[test]
+fn parts_of_lists_cut_at_every_place(rt: HostRuntime) -> Result<(), Fail> {
+    let nothing: (&[u8], &[Told], bool) = (&[], &[], false);
+    let half_a_length: (&[u8], &[Told], bool) = (&[0], &[], true);
+    let empty: (&[u8], &[Told], bool) = (&[0, 0], &[Told::Begin(0), Told::End], false);
+    let two_bytes: (&[u8], &[Told], bool) = (
+        &[0, 2, 7, 8],
+        &[Told::Begin(2), Told::Byte(7), Told::Byte(8), Told::End],
+        false,
+    );
+    let high_byte_first: (&[u8], &[Told], bool) = (
+        &[1, 0, 9],
+        &[Told::Begin(256), Told::Byte(9)],
+        true,
+    );
+    let three_frames: (&[u8], &[Told], bool) = (
+        &[0, 1, 5, 0, 0, 0, 1],
+        &[
+            Told::Begin(1),
+            Told::Byte(5),
+            Told::End,
+            Told::Begin(0),
+            Told::End,
+            Told::Begin(1),
+        ],
+        true,
+    );
+    let table = [
+        nothing,
+        half_a_length,
+        empty,
+        two_bytes,
+        high_byte_first,
+        three_frames,
+    ];
+    for (bytes, expected, partial) in table {
+        for cut in 0..=bytes.len() {
+            let mut frames = Frames::new();
+            let mut told = Vec::new(rt.alloc());
+            read(&mut frames, &bytes[..cut], &mut told)?;
+            read(&mut frames, &bytes[cut..], &mut told)?;
+            assert_eq!(rt; told.as_slice(), expected, "{bytes:?} at {cut}");
+            assert_eq!(rt; frames.partial(), partial, "{bytes:?} at {cut}");
+        }
+    }
+    Ok(())
+}
+
+#[test]
+fn the_longest_frame(rt: HostRuntime) -> Result<(), Fail> {
+    let bytes = vec![in rt.alloc(); 0xffu8; 65_537]?;
+    let mut piece = bytes.as_slice();
+    let mut frames = Frames::new();
+    assert_eq!(rt; frames.next(&mut piece), Some(Part::Begin(65_535)));
+    assert!(rt;
+        matches!(frames.next(&mut piece), Some(Part::Bytes(content)) if content.len() == 65_535)
+    );
+    assert!(rt; !frames.partial());
+    assert_eq!(rt; frames.next(&mut piece), Some(Part::End));
+    assert!(rt; frames.next(&mut piece).is_none());
+    Ok(())
+}
+
+#[test]
+fn written_frames(rt: HostRuntime) -> Result<(), Fail> {
+    let mut out = mb_message::Buf::new();
+    put_frame(&[], &mut out);
+    put_frame(&[7, 8], &mut out);
+    put_frame(&[9; 300], &mut out);
+    assert_eq!(rt;
+        &out.as_slice()[..9],
+        [0, 0, 0, 2, 7, 8, 1, 44, 9].as_slice()
+    );
+    assert_eq!(rt; out.len(), 308);
+    Ok(())
+}
+
+#[test]
+fn a_frame_by_single_bytes(rt: HostRuntime) -> Result<(), Fail> {
+    let mut frames = Frames::new();
+    assert_eq!(rt; frames.length(1), None);
+    assert_eq!(rt; frames.length(2), Some(258));
+    assert_eq!(rt; frames.room(), 258);
+    frames.pass(258);
+    assert!(rt; frames.at_end() && frames.room() == 0);
+    frames.leave();
+    assert!(rt; !frames.at_end());
+    Ok(())
+}
