@@ -1,7 +1,7 @@
-mod DinMarks
-mod Examples
 pub mod ByteNews
 pub mod Contract
+mod DinMarks
+mod Examples
 pub mod Law
 pub mod Rises
 pub mod RunLemmas
