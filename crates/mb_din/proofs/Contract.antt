@@ -72,7 +72,7 @@ goes_by was m input entries more before t rises runs later h =
         state = subst (λ z. IsAhead t.behind (state_of t.behind.offset z) h.ahead) (sym behind_is) h.state;
       };
       still = subst (λ z. IsFront z (so_far (entries ++ (heard_from was.offset m input ++ more)))) (sym told)
-        (front-after (so_far (entries ++ (heard_from was.offset m input ++ more))) (so_far (entries ++ heard_from was.offset m h.taken)) h.ahead (news_from (last_of (entries ++ heard_from was.offset m h.taken)) (heard_from (was.offset + length h.taken) m t.left ++ more))
+          (front-after (so_far (entries ++ (heard_from was.offset m input ++ more))) (so_far (entries ++ heard_from was.offset m h.taken)) h.ahead (news_from (last_of (entries ++ heard_from was.offset m h.taken)) (heard_from (was.offset + length h.taken) m t.left ++ more))
           (ap so_far (cut_entries entries more was.offset m input h.taken t.left h.front) ∙ so_far-append (entries ++ heard_from was.offset m h.taken) (heard_from (was.offset + length h.taken) m t.left ++ more) (was.offset + length h.taken) rises_on (rest_rises was.offset m input h.taken t.left more h.front later))
           (next-front h.ahead (last_of (entries ++ heard_from was.offset m h.taken)) (was.offset + length h.taken) m t.left more (subst (λ z. IsNext h.ahead z (was.offset + length h.taken) m t.left) (sym behind_is) (subst (λ z. IsNext h.ahead (group_after (last_of entries) (heard_from was.offset m h.taken)) z m t.left) h.offset h.next))));
     }
@@ -134,9 +134,9 @@ nil_from_map (k ∷ ks) e = cc
 nothing_ahead : (xs ys ahead rest : List Known) → xs ≡ ys ++ ahead → ys ≡ xs ++ rest → ahead ≡ []
 nothing_ahead xs ys ahead rest e f = nil_by xs ahead rest (append_cancel_left xs [] (rest ++ ahead) (append-nil xs ∙ e ∙ ap (λ z. z ++ ahead) f ∙ append_assoc xs rest ahead))
   where
-  nil_by : (xs ahead rest : List Known) → [] ≡ rest ++ ahead → ahead ≡ []
-  nil_by xs ahead [] h = sym h
-  nil_by xs ahead (r ∷ rs) h = cc
+    nil_by : (xs ahead rest : List Known) → [] ≡ rest ++ ahead → ahead ≡ []
+    nil_by xs ahead [] h = sym h
+    nil_by xs ahead (r ∷ rs) h = cc
 
 all_by : (told fresh known ahead rest : List Known) → fresh ≡ [] → told ++ fresh ≡ known ++ ahead → known ≡ (told ++ fresh) ++ rest → told ≡ known
 all_by told fresh known ahead rest n e f =
@@ -159,9 +159,9 @@ all_told None was now input left t l n e =
 at_rest : (now : State) (entries : List Entry) → Stands now entries (so_far entries) → now ≡ state_of now.offset (last_of entries)
 at_rest now entries s = rest_by s.ahead now entries (nothing_ahead (so_far entries) (so_far entries) s.ahead [] s.told_is (sym (append-nil (so_far entries)))) s.state
   where
-  rest_by : (ahead : List Known) (now : State) (entries : List Entry) → ahead ≡ [] → IsAhead now (state_of now.offset (last_of entries)) ahead → now ≡ state_of now.offset (last_of entries)
-  rest_by [] now entries e h = h
-  rest_by (k ∷ ks) now entries e h = cc
+    rest_by : (ahead : List Known) (now : State) (entries : List Entry) → ahead ≡ [] → IsAhead now (state_of now.offset (last_of entries)) ahead → now ≡ state_of now.offset (last_of entries)
+    rest_by [] now entries e h = h
+    rest_by (k ∷ ks) now entries e h = cc
 
 -- what stands where all is told
 stands_at_rest : (now : State) (entries : List Entry) → RisesTo 0 now.offset entries → OnlyChannelsRun entries → now ≡ state_of now.offset (last_of entries) → (told : List Known) → told ≡ so_far entries → Stands now entries told
@@ -217,11 +217,11 @@ pub resume_stands : (was now : State) (status : ℕ) → is_channel status ≡ t
 resume_stands was now status h e entries s =
     subst (λ z. Stands z (entries ++ Silent status ∷ []) (so_far entries)) (sym e)
     (stands_at_rest (record { offset = was.offset; progress = Running status }) (entries ++ Silent status ∷ [])
-        (RisesTo-append entries (Silent status ∷ []) 0 was.offset was.offset s.rises (λ below l. l))
-        (OnlyChannelsRun-silent entries status h s.runs)
-        (ap (λ z. record { offset = was.offset; progress = z }) (sym (ap progress_of (last_of-append entries (Silent status ∷ [])) ∙ channel_runs status h)))
-        (so_far entries)
-        (sym (so_far-append entries (Silent status ∷ []) was.offset s.rises tt ∙ append-nil (so_far entries))))
+    (RisesTo-append entries (Silent status ∷ []) 0 was.offset was.offset s.rises (λ below l. l))
+    (OnlyChannelsRun-silent entries status h s.runs)
+    (ap (λ z. record { offset = was.offset; progress = z }) (sym (ap progress_of (last_of-append entries (Silent status ∷ [])) ∙ channel_runs status h)))
+    (so_far entries)
+    (sym (so_far-append entries (Silent status ∷ []) was.offset s.rises tt ∙ append-nil (so_far entries))))
 
 -- `may_run`, `in_sysex`
 

@@ -121,9 +121,9 @@ record IsRun (g : Group) (o m : ℕ) (fs : List ℕ) : Type 0 where
 run_more : (g : Group) (o m b : ℕ) (fs : List ℕ) → is_sysex g ≡ true → is_data b ≡ true → IsRun (longer g (spot o b m)) (o + 1) m fs → IsRun g o m (b ∷ fs)
 run_more g o m b fs h d i = record {
   tells =
-    ap (λ z. told_in (z ++ news_from (behind g (Heard (spot o b m))) (heard_from (o + 1) m fs))) (news-data g (spot o b m) d ∙ sysex_data g.status g.data_bytes (spot o b m) h)
-    ∙ ap (λ z. Marks (ByteSign b) ∷ told_in (news_from z (heard_from (o + 1) m fs))) (behind-data g (spot o b m) d)
-    ∙ ap (λ z. Marks (ByteSign b) ∷ z) i.tells;
+      ap (λ z. told_in (z ++ news_from (behind g (Heard (spot o b m))) (heard_from (o + 1) m fs))) (news-data g (spot o b m) d ∙ sysex_data g.status g.data_bytes (spot o b m) h)
+      ∙ ap (λ z. Marks (ByteSign b) ∷ told_in (news_from z (heard_from (o + 1) m fs))) (behind-data g (spot o b m) d)
+      ∙ ap (λ z. Marks (ByteSign b) ∷ z) i.tells;
   stays = ap (λ z. is_sysex (group_after z (heard_from (o + 1) m fs))) (behind-data g (spot o b m) d) ∙ i.stays;
 }
 
