@@ -91,5 +91,8 @@ pub trait EventWriter {
     /// What is written of some marks stays written.
     ghost stays: { (w : Self) (marks more : List Sign) → suited (marks ++ more) ≡ true → IsFront (live (spec w) marks) (live (spec w) (marks ++ more)) };
 
+    /// What the end adds stands behind it.
+    ghost closes: { (w : Self) (marks : List Sign) → suited marks ≡ true → IsFront (live (spec w) marks) (written (spec w) marks) };
+
     ghost open_now: { (w : Self) (marks : List Sign) → stands w marks → in_sysex w ≡ is_open marks };
 }

@@ -6,7 +6,8 @@ ghost use Rattle.mb_message.specs.Signs.{Sign, ByteSign, suits_event, suits_sign
 ghost use Rattle.mb_message.specs.Signs.{IsShortRun, open_behind};
 ghost use Rattle.mb_outside.specs.Cause.{HasCause};
 ghost use Rattle.mb_outside.specs.Taking.{TookFront};
-ghost use Rattle.mb_carrier.specs.Carrier.{live, written};
+ghost use Rattle.mb_carrier.specs.Carrier.{live, written, told_signs};
+ghost use Rattle.mb_din.specs.Turn.{answer};
 ghost use Rattle.mb_carrier.specs.Hop.{Gave, Halted, Fed, FedHalted, Ended, EndHalted, HopStands, seen_signs, MayCome};
 
 use crate::{EventReader, EventWriter, ROOM};
@@ -60,13 +61,36 @@ pub fn finish_pair<R: EventReader, W: EventWriter, K: Out>(
         (λ given. K.took out.old given out.new)) }
 {
     let mut held = Buf::new();
-    if let Some(seen) = reader.finish() {
-        if let Err(refused) = put_seen(writer, seen, &mut held, out) {
-            return Err(refused);
-        }
+    if let Err(refused) = put_last(writer, reader.finish(), &mut held, out) {
+        return Err(refused);
     }
     writer.finish(&mut held);
     out.take(held.as_slice())
+}
+
+/// Writes what the end told, if it told anything.
+fn put_last<W: EventWriter, K: Out>(
+    writer: &mut W,
+    last: Option<Seen<'_>>,
+    held: &mut Buf,
+    out: &mut K,
+) -> Result<(), Refused>
+    requires room { array_vec_len held.old + ROOM ≤ 1024 }
+    requires suits { MayCome (W.in_sysex writer.old) (told_signs (answer last)) }
+    requires ready { K.ready out.old }
+    ensures spec { W.spec writer.new ≡ W.spec writer.old }
+    ensures room { OnOk result (array_vec_len held.new + ROOM ≤ 1024) }
+    ensures ready { K.ready out.new }
+    ensures cause { HasCause (K.refusals out.old) (K.refusals out.new) result }
+    ensures gave { OnOk result (Gave (live (W.spec writer.old)) (W.stands writer.old) (W.stands writer.new) (told_signs (answer last.entry))
+        held.old.items held.new.items (λ given. K.took out.old given out.new)) }
+    ensures halted { OnErr result (Halted (live (W.spec writer.old)) (W.stands writer.old) (told_signs (answer last.entry))
+        held.old.items (λ given. K.took out.old given out.new)) }
+{
+    match last {
+        Some(seen) => put_seen(writer, seen, held, out),
+        None => Ok(()),
+    }
 }
 
 /// Writes an event; a note is passed over.

@@ -7,5 +7,9 @@ pub mod Rises
 pub mod RunLemmas
 pub mod Simulation
 pub mod StatusStep
+pub mod StreamLaw
+pub mod StreamLemmas
 pub mod TurnLemmas
+pub mod WriterLemmas
+mod WrittenExamples
 mod WrittenMarks

@@ -1,16 +1,18 @@
 pub mod AppendedLemmas
-pub mod ByteKinds
+pub mod EventLemmas
 mod Examples
+pub mod StandingLemmas
+pub mod OrderLemmas
 pub mod GroupsLemmas
+pub mod NewsLaw
+pub mod ByteKinds
 pub mod Late
 pub mod Literal
 pub mod LiteralMarks
 pub mod Machine
-pub mod NewsLaw
-pub mod OrderLemmas
 pub mod OrderedMarks
 pub mod ReadMarks
 pub mod SpelledMarks
-pub mod SpelledStep
-pub mod StandingLemmas
 pub mod Suits
+pub mod WorkingForm
+pub mod SpelledStep

@@ -1,5 +1,4 @@
 mod CarrierLaws
-mod Events
 mod Examples
 mod GoodCuts
 mod HeldBytes
