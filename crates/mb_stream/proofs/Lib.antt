@@ -14,5 +14,4 @@ pub mod OrderedMarks
 pub mod ReadMarks
 pub mod SpelledMarks
 pub mod Suits
-pub mod WorkingForm
 pub mod SpelledStep
