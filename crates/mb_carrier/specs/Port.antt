@@ -46,3 +46,8 @@ reader_offset_by (reader.Din r) = r.offset
 
 abbrev pub reader_offset : PortReader → ℕ
 reader_offset r = reader_offset_by r.carrier
+
+-- the carriers that are read so far
+abbrev pub IsRead : Spec → Type 0
+IsRead spec.Din = Unit {0}
+IsRead (spec.Usb cable) = ⊥

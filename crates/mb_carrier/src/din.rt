@@ -2,9 +2,40 @@
 
 ghost use Rattle.std.specs.Prelude.{ℕ, List};
 
-use crate::EventWriter;
-use mb_din::DinWriter;
-use mb_message::{Buf, Ev};
+use crate::{EventReader, EventWriter};
+use mb_din::{DinReader, DinWriter};
+use mb_message::{Buf, Ev, Seen};
+
+impl EventReader for DinReader {
+    ghost use Rattle.mb_din.specs.State as state;
+    ghost use Rattle.mb_carrier.specs.Line.{LineStands};
+    ghost use Rattle.mb_carrier.specs.declared.spec.Spec.TheVariants.{Din};
+    ghost use Rattle.mb_carrier.specs.DinLaws.{known-stays, marks-end, marks-suit};
+
+    ghost spec = { λ r. Din };
+
+    ghost offset = { λ r. r.offset };
+
+    ghost owed = { λ r. state.owed r };
+
+    ghost stands = { λ r bytes told. LineStands r bytes told };
+
+    #[inline(always)]
+    fn next<'a>(&mut self, input: &mut &'a [u8]) -> Option<Seen<'a>> {
+        DinReader::next(self, input)
+    }
+
+    #[inline(always)]
+    fn finish(&mut self) -> Option<Seen<'static>> {
+        DinReader::finish(self)
+    }
+
+    ghost stays = { λ r bytes more. known-stays bytes more };
+
+    ghost ends = { λ r bytes. marks-end bytes };
+
+    ghost suits = { λ r bytes. marks-suit bytes };
+}
 
 impl EventWriter for DinWriter {
     ghost use Rattle.std.specs.Prelude.{◌≡◌, true};

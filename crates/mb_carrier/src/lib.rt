@@ -4,8 +4,14 @@
 mod din;
 mod events;
 mod feed;
+mod hop;
+mod reader;
 mod spec;
 mod usb;
+mod writer;
 
 pub use events::{EventReader, EventWriter, ROOM};
+pub use hop::{feed_hop, finish_hop};
+pub use reader::PortReader;
 pub use spec::Spec;
+pub use writer::PortWriter;

@@ -5,13 +5,11 @@ ghost use Rattle.mb_carrier.specs.Port.{writer_spec, WriterStands};
 ghost use Rattle.mb_carrier.specs.Word.{IsSpec};
 ghost use Rattle.mb_carrier.specs.declared.spec.Spec.{Spec};
 
-use std::alloc::Global;
-
+use crate::Spec;
 use mb_din::DinWriter;
 use mb_message::Memory;
 use mb_usb::UsbWriter;
-
-use crate::Spec;
+use std::alloc::Global;
 
 /// The writer of each carrier.
 #[derive(Debug, Drop)]

@@ -1,6 +1,6 @@
 pub mod ByteNews
 pub mod Contract
-mod DinMarks
+pub mod DinMarks
 mod Examples
 pub mod Law
 pub mod Rises
@@ -12,4 +12,4 @@ pub mod StreamLemmas
 pub mod TurnLemmas
 pub mod WriterLemmas
 mod WrittenExamples
-mod WrittenMarks
+pub mod WrittenMarks

@@ -1,4 +1,4 @@
-mod CarrierLaws
+pub mod CarrierLaws
 mod Examples
 mod GoodCuts
 mod HeldBytes
