@@ -5,6 +5,7 @@
 --   Ends ..                what an answer says of the bytes left at first, those read and those written
 --   Answered ..            all that a call did to the desk
 use Rattle.std.specs.Prelude.{◌≡◌, ℕ, ◌-◌, ◌<◌, ◌≤◌, true, List, [], ◌∷◌, ◌++◌, length, take, drop, ◌⊎◌, codes}
+use Rattle.mb_outside.specs.Cause.{Rose}
 use Rattle.mb_outside.specs.Contents.{Contents, after_read, after_write}
 use Rattle.mb_outside.specs.Taking.{IsFront}
 use Rattle.mb_carrier.specs.Carrier.{whole}
@@ -78,3 +79,18 @@ pub record Answered (words : List (List ℕ)) (limit : ℕ) (before after : Cont
   pub number : answer ≡ code_of status
   pub ends : Ends words limit (before.left 0) (taken_off 0 before after) (added_to 1 before after) status
   pub text : Says rose (added_to 2 before after) (text_of status)
+
+-- inside: a command read these bytes and wrote those, and changed nothing else
+pub record Ran (c : Command) (limit : ℕ) (before after : Contents) (status : Status) : Type 0 where
+  pub input : List ℕ
+  pub output : List ℕ
+  pub contents : after ≡ after_write 1 output (after_read 0 (length input) before)
+  pub front : IsFront input (before.left 0)
+  pub within : length input ≤ limit
+  pub ends : EndsAs c limit (before.left 0) input output status
+
+-- a fault has its cause
+abbrev pub HasFault : (reads_before reads_after writes_before writes_after : ℕ) → Status → Type 0
+HasFault reads reads_now writes writes_now ReadFault = Rose reads reads_now
+HasFault reads reads_now writes writes_now WriteFault = Rose writes writes_now
+HasFault reads reads_now writes writes_now _ = Unit {0}

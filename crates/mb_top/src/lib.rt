@@ -2,5 +2,9 @@
 #![tactic(auto)]
 
 mod command;
+mod convert;
+mod entry;
 mod hop;
 mod status;
+
+pub use entry::{LIMIT, bridge, bridge_within};
