@@ -1,4 +1,4 @@
-mod DinMarks
+pub mod DinMarks
 mod Examples
 pub mod RunLemmas
 pub mod StreamLaw
@@ -6,4 +6,4 @@ pub mod StreamLemmas
 pub mod TurnLemmas
 pub mod WriterLemmas
 mod WrittenExamples
-mod WrittenMarks
+pub mod WrittenMarks
