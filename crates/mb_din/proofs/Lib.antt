@@ -1,6 +1,12 @@
+pub mod ByteNews
+pub mod Contract
 pub mod DinMarks
 mod Examples
+pub mod Law
+pub mod Rises
 pub mod RunLemmas
+pub mod Simulation
+pub mod StatusStep
 pub mod StreamLaw
 pub mod StreamLemmas
 pub mod TurnLemmas
