@@ -1,8 +1,8 @@
 pub mod ByteNews
-pub mod Contract
 pub mod DinMarks
 mod Examples
-pub mod Law
+pub mod NextLaw
+pub mod ReaderLaw
 pub mod Rises
 pub mod RunLemmas
 pub mod Simulation

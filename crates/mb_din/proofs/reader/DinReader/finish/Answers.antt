@@ -1,6 +1,6 @@
-use Rattle.std.proofs.Common.{◌∙◌, ap, sym}
+use Rattle.std.proofs.Common.{◌∙◌, ap}
 use Rattle.mb_din.specs.Turn.{answer, told_at_end}
-use Rattle.mb_din.proofs.Contract.{finish_told}
+use Rattle.mb_din.proofs.ReaderLaw.{finish_told}
 use Rattle.mb_din.proofs.reader.DinReader.finish.Goals as goal
 
 pub returns-clause-told : goal.returns-clause-told

@@ -1,5 +1,5 @@
 use Rattle.mb_din.specs.Turn.{answer}
-use Rattle.mb_din.proofs.Contract.{next_stands, all_told}
+use Rattle.mb_din.proofs.ReaderLaw.{next_stands, all_told}
 use Rattle.mb_din.proofs.TurnLemmas.{front_of, end_of, none_of, falls_of, longest_of}
 use Rattle.mb_din.proofs.reader.DinReader.next.Goals as goal
 

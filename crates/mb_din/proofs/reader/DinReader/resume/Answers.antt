@@ -1,7 +1,7 @@
 use Rattle.std.proofs.Common.{ap}
 use Rattle.mb_din.specs.declared.progress.Progress.TheVariants.{Running}
 use Rattle.mb_din.specs.State.{State}
-use Rattle.mb_din.proofs.Contract.{resume_stands}
+use Rattle.mb_din.proofs.ReaderLaw.{resume_stands}
 use Rattle.mb_din.proofs.reader.DinReader.resume.Goals as goal
 
 pub returns-clause-stands : goal.returns-clause-stands
