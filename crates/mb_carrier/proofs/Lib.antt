@@ -2,4 +2,5 @@ pub mod ChainLemmas
 pub mod FeedLemmas
 pub mod LineLemmas
 pub mod SpecLaws
+pub mod WordLemmas
 pub mod HopLemmas
