@@ -1,11 +1,11 @@
 //! `convert`: read a piece, write all that it gives, read on.
 
-ghost use Rattle.std.specs.Prelude.{◌≡◌, ℕ, ◌<◌, ◌≤◌, ◌^◌, [], IsTrue};
+ghost use Rattle.std.specs.Prelude.{◌≡◌, ℕ, ◌<◌, ◌≤◌, ◌^◌, [], false, IsTrue};
 ghost use Rattle.mb_outside.specs.Cause.{Rose};
 ghost use Rattle.mb_carrier.specs.Port.{IsRead, reader_spec, reader_offset, ReaderStands, writer_spec, WriterStands};
 ghost use Rattle.mb_carrier.specs.Word.{IsSpec};
 ghost use Rattle.mb_top.specs.Command.{Converting};
-ghost use Rattle.mb_top.specs.Answer.{Ran, HasFault};
+ghost use Rattle.mb_top.specs.Answer.{Ran, HasFault, is_usage, wants_memory};
 
 use crate::hop::Hop;
 use crate::status::Status;
@@ -28,6 +28,8 @@ pub(crate) fn convert<D: Desk>(
     requires first { IsRead first }
     requires last { IsSpec last }
     ensures ran { IsTrue D.tells → Ran (Converting first [] last) limit (D.contents desk.old) (D.contents desk.new) result }
+    ensures command { is_usage result ≡ false }
+    ensures memory { wants_memory result ≡ false }
     ensures fault { HasFault (D.read_faults desk.old) (D.read_faults desk.new) (D.write_faults desk.old) (D.write_faults desk.new) result }
     ensures reads { D.read_faults desk.old ≤ D.read_faults desk.new }
     ensures writes { D.write_faults desk.old ≤ D.write_faults desk.new }
@@ -46,6 +48,8 @@ fn stream<D: Desk>(mut hop: Hop, desk: &mut D, limit: u64) -> Status
     requires reader { ReaderStands hop.reader [] [] }
     requires writer { WriterStands hop.writer [] }
     ensures ran { IsTrue D.tells → Ran (Converting (reader_spec hop.reader) [] (writer_spec hop.writer)) limit (D.contents desk.old) (D.contents desk.new) result }
+    ensures command { is_usage result ≡ false }
+    ensures memory { wants_memory result ≡ false }
     ensures fault { HasFault (D.read_faults desk.old) (D.read_faults desk.new) (D.write_faults desk.old) (D.write_faults desk.new) result }
     ensures reads { D.read_faults desk.old ≤ D.read_faults desk.new }
     ensures writes { D.write_faults desk.old ≤ D.write_faults desk.new }
