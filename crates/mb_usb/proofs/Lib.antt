@@ -1,15 +1,15 @@
 pub mod CarrierLaws
 mod Examples
-mod GoodCuts
-mod HeldBytes
-mod HeldClean
+pub mod GoodCuts
+pub mod HeldBytes
+pub mod HeldClean
 pub mod Loops
-mod PacketFacts
+pub mod PacketFacts
 mod PacketPlaces
-mod PayloadMarks
+pub mod PayloadMarks
 mod Places
 mod RecordingExamples
 pub mod RunningLemmas
 pub mod UsbLaw
 pub mod WriterLemmas
-mod WrittenCuts
+pub mod WrittenCuts
