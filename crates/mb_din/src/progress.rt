@@ -49,7 +49,8 @@ fn has_one(status: u8) -> bool
     (status >= 0xc0 && status < 0xe0) || status == 0xf1 || status == 0xf3
 }
 
-/// A message that is whole: behind it only a channel status runs on.
+/// A message that is whole: behind it only a channel status runs on. Each branch makes the message, so that a compiler
+/// tests its status once.
 #[inline(always)]
 fn finish_message(
     progress: &mut Progress,
