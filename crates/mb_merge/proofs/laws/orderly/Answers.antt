@@ -1,0 +1,8 @@
+use Rattle.mb_merge.proofs.Histories.{orderly, opened-IsFresh}
+use Rattle.mb_merge.proofs.laws.orderly.Goals as goal
+
+pub returns-clause-calls : goal.returns-clause-calls
+returns-clause-calls c = orderly
+
+pub returns-clause-opened : goal.returns-clause-opened
+returns-clause-opened c = opened-IsFresh
