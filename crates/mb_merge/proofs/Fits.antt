@@ -1,6 +1,6 @@
 -- What holds of a router between calls, and that each call keeps it.
-use Rattle.std.proofs.Common.{◌≡◌, ◌≢◌, ℕ, zero, suc, ◌+◌, ◌<◌, ◌≤◌, ◌⊎◌, inl, inr, Bool, true, false, not, ◌&&◌, ◌||◌, ◌==◌, nat_lt, if◌then◌else◌, List, [], ◌∷◌, ◌++◌, length, map, drop, Option, Some, None, refl, sym, ◌∙◌, ap, subst, arith, append-nil}
-use Rattle.std.specs.Prelude.{slice_set, slice_get}
+use Rattle.std.proofs.Common.{◌≡◌, ◌≢◌, ℕ, ◌<◌, ◌⊎◌, inl, inr, Bool, true, false, not, ◌&&◌, ◌||◌, ◌==◌, if◌then◌else◌, List, [], ◌∷◌, ◌++◌, length, map, drop, Option, Some, None, refl, sym, ◌∙◌, ap, subst, arith}
+use Rattle.std.specs.Prelude.{slice_set}
 use Rattle.std.proofs.lemmas.Bool.Decides.{nat_tests}
 use Rattle.std.proofs.lemmas.Option.{none-some}
 use Rattle.std.proofs.lemmas.List.{map-append, nil_from_length}
@@ -9,12 +9,10 @@ use Rattle.mb_message.specs.declared.mark.Mark.TheVariants as mark
 use Rattle.mb_message.specs.Signs.{sign_of, suits_sign}
 use Rattle.mb_merge.specs.declared.source.Held.{Held}
 use Rattle.mb_merge.specs.declared.router.Passed.{Passed}
-use Rattle.mb_merge.specs.declared.waiting.Head.{Head}
 use Rattle.mb_merge.specs.Links.{Link, Merger, HasSource, link_at, link_of, with_link, is_owned}
-use Rattle.mb_merge.specs.Passing.{is_realtime_mark, may_pass, opens, ready_by, ready_head, least, passes_now, taken, offered_mark, offered_in, after_pass, after_head, drained, head_passes, held_passes, offered_passes, next_of}
-use Rattle.mb_merge.specs.Calls.{in_turn, IsExclusive, IsLeast}
-use Rattle.mb_merge.proofs.LeastLemmas.{least-IsLeast}
-use Rattle.mb_merge.proofs.Flows.{link_at-set_same, link_at-set_other, length-links, same_or_not, Suit, Suit-append, NoRealtime, NoRealtime-append, opens-realtime, IsFree, not_owned-free, exclusive-set, Alike, alike-set, IsFree-alike, IsExclusive-alike}
+use Rattle.mb_merge.specs.Passing.{is_realtime_mark, may_pass, opens, least, passes_now, taken, offered_mark, after_pass, after_head, drained}
+use Rattle.mb_merge.specs.Calls.{in_turn, IsExclusive}
+use Rattle.mb_merge.proofs.Flows.{link_at-set_same, link_at-set_other, same_or_not, Suit, Suit-append, NoRealtime, NoRealtime-append, opens-realtime, IsFree, not_owned-free, exclusive-set, Alike, alike-set, IsFree-alike, IsExclusive-alike}
 
 -- the mark just offered, where it is of this source and keeps its turn
 abbrev pub offered_turn : Option Passed → ℕ → List Mark

@@ -5,19 +5,16 @@
 --   Suit open ms last       the marks suit one after another, and leave a SysEx open or not
 --   IsFree ls s             no other source has an open SysEx on an out of it
 --   Fits m                  what holds of a router between calls
-use Rattle.std.proofs.Common.{◌≡◌, ◌≢◌, ℕ, zero, suc, ◌+◌, ◌<◌, ◌≤◌, ◌⊎◌, inl, inr, Bool, true, false, not, ◌&&◌, ◌||◌, ◌==◌, nat_lt, if◌then◌else◌, List, [], ◌∷◌, ◌++◌, length, map, get_or, Option, Some, None, refl, sym, ◌∙◌, ap, subst, arith, append-nil}
-use Rattle.std.specs.Prelude.{slice_set, slice_get}
-use Rattle.std.specs.List.{zip, list_any}
-use Rattle.std.proofs.lemmas.Bool.Decides.{nat_tests}
+use Rattle.std.proofs.Common.{◌≡◌, ◌≢◌, ℕ, ◌<◌, ◌⊎◌, inl, inr, Bool, true, false, ◌&&◌, ◌||◌, List, [], ◌∷◌, ◌++◌, length, refl, sym, ◌∙◌, ap, subst, arith}
+use Rattle.std.specs.Prelude.{slice_set}
 use Rattle.std.proofs.lemmas.List.{get_or-set_same, get_or-set_other, length-set}
 use Rattle.mb_message.specs.declared.mark.Mark.{Mark}
 use Rattle.mb_message.specs.declared.mark.Mark.TheVariants as mark
 use Rattle.mb_message.specs.Signs.{sign_of, suits_sign}
 use Rattle.mb_merge.specs.declared.source.Held.{Held}
-use Rattle.mb_merge.specs.declared.router.Passed.{Passed}
-use Rattle.mb_merge.specs.Links.{Link, Merger, closed_link, link_at, link_of, share, owns, is_owned_below, is_owned}
-use Rattle.mb_merge.specs.Passing.{is_realtime_mark, may_pass, opens, taken, after_pass, after_head}
-use Rattle.mb_merge.specs.Calls.{in_turn, one, IsExclusive}
+use Rattle.mb_merge.specs.Links.{Link, closed_link, link_at, share, owns, is_owned}
+use Rattle.mb_merge.specs.Passing.{is_realtime_mark, opens}
+use Rattle.mb_merge.specs.Calls.{IsExclusive}
 use Rattle.mb_merge.proofs.LinkLemmas.{is_owned_below-hit, takes_from_is}
 
 -- links at their places

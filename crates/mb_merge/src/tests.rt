@@ -1,5 +1,8 @@
+ghost use Rattle.std.specs.Prelude.{◌<◌};
+
 use super::*;
 use mb_message::{Mark, Rt, Short};
+use std::alloc::Global;
 use std::process::Abort;
 use std::test::Fail;
 
@@ -134,4 +137,67 @@ fn a_full_source(rt: HostRuntime) -> Result<(), Fail> {
     assert!(rt; passes(&mut router, &[]));
     assert_eq!(rt; (held(&rt, &router, 1), held(&rt, &router, 2)), (1024, 1));
     Ok(())
+}
+
+/// The marks of a source in turn: notes, and for the last third of each turn a SysEx.
+fn mark_of(round: u64, third: u64, note: Mark) -> Mark
+    requires few { third < 10_000 }
+    requires some { 0 < third }
+{
+    let place = round % (3 * third);
+    if place < 2 * third {
+        note
+    } else if place == 2 * third {
+        Mark::Open
+    } else if place + 1 == 3 * third {
+        Mark::End
+    } else {
+        Mark::Byte(1)
+    }
+}
+
+/// Offers 9,000 rounds of marks of 16 sources over 16 outs, all routed. How many passed.
+fn merges(rt: &impl Abort, router: &mut Router, third: u64, note: Mark) -> u64
+    requires few { third < 10_000 }
+    requires some { 0 < third }
+{
+    let mut passed = 0u64;
+    for round in 0..9_000u64 {
+        let mark = mark_of(round, third, note);
+        for source in 0..16u8 {
+            if offer(rt, router, source, round, mark).is_err() {
+                return passed;
+            }
+            while let Some(_) = router.next_passed() {
+                passed = passed.wrapping_add(1);
+            }
+        }
+    }
+    passed
+}
+
+fn all_routed(rt: &impl Abort, alloc: Global, third: u64) -> Result<(), Fail>
+    requires few { third < 10_000 }
+    requires some { 0 < third }
+{
+    let note = Mark::Short(Short::new(0x90, 0x3c, 0x64).ok_or("a note")?);
+    let mut routes = Vec::new(alloc);
+    for source in 0..16u8 {
+        for out in 0..16u8 {
+            routes.push((source, out))?;
+        }
+    }
+    let mut router = Router::open(alloc, 16, 16, &routes)?;
+    assert_eq!(rt; merges(rt, &mut router, third, note), 144_000);
+    Ok(())
+}
+
+#[test]
+fn all_routed_with_short_dumps(rt: HostRuntime) -> Result<(), Fail> {
+    all_routed(&rt, rt.alloc(), 3)
+}
+
+#[test]
+fn all_routed_with_long_dumps(rt: HostRuntime) -> Result<(), Fail> {
+    all_routed(&rt, rt.alloc(), 1000)
 }
