@@ -7,7 +7,7 @@ ghost use Rattle.mb_stream.specs.Standing.{suited, is_open};
 ghost use Rattle.mb_stream.specs.Told.{Known};
 ghost use Rattle.mb_din.specs.Turn.{answer};
 ghost use Rattle.mb_outside.specs.Taking.{IsFront};
-ghost use Rattle.mb_carrier.specs.Carrier.{known, end_told, live, written};
+ghost use Rattle.mb_carrier.specs.Carrier.{known, end_told, told_signs, marks_of, marks_so_far, live, written};
 ghost use Rattle.mb_carrier.specs.Hop.{ReaderGoes, Puts};
 ghost use Rattle.mb_carrier.specs.Word.{IsSpec};
 ghost use Rattle.mb_carrier.specs.declared.spec.Spec.{Spec};
@@ -47,6 +47,15 @@ pub trait EventReader {
     fn finish(&mut self) -> Option<Seen<'static>>
         ensures spec { spec self.new ≡ spec self.old }
         ensures told { (bytes : List ℕ) → stands self.old bytes (known (spec self.old) bytes) → answer result ≡ end_told (spec self.old) bytes };
+
+    /// What is known of some bytes stays known.
+    ghost stays: { (r : Self) (bytes more : List ℕ) → IsFront (known (spec r) bytes) (known (spec r) (bytes ++ more)) };
+
+    /// The marks of a reading are those that are known and those that its end tells.
+    ghost ends: { (r : Self) (bytes : List ℕ) → marks_of (spec r) bytes ≡ marks_so_far (spec r) bytes ++ told_signs (end_told (spec r) bytes) };
+
+    /// What is read of any bytes suits.
+    ghost suits: { (r : Self) (bytes : List ℕ) → suited (marks_of (spec r) bytes) ≡ true };
 }
 
 /// A writer of one port.
@@ -78,6 +87,12 @@ pub trait EventWriter {
 
     /// What it was given suits.
     ghost each_suits: { (w : Self) (marks : List Sign) → stands w marks → suited marks ≡ true };
+
+    /// What is written of some marks stays written.
+    ghost stays: { (w : Self) (marks more : List Sign) → suited (marks ++ more) ≡ true → IsFront (live (spec w) marks) (live (spec w) (marks ++ more)) };
+
+    /// What the end adds stands behind it.
+    ghost closes: { (w : Self) (marks : List Sign) → suited marks ≡ true → IsFront (live (spec w) marks) (written (spec w) marks) };
 
     ghost open_now: { (w : Self) (marks : List Sign) → stands w marks → in_sysex w ≡ is_open marks };
 }

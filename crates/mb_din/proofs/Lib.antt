@@ -1,3 +1,15 @@
+pub mod ByteNews
+pub mod DinMarks
 mod Examples
+pub mod NextLaw
+pub mod ReaderLaw
+pub mod Rises
 pub mod RunLemmas
+pub mod Simulation
+pub mod StatusStep
+pub mod StreamLaw
+pub mod StreamLemmas
 pub mod TurnLemmas
+pub mod WriterLemmas
+mod WrittenExamples
+pub mod WrittenMarks

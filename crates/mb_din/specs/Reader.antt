@@ -1,12 +1,67 @@
--- What a DIN reader promises (MIDI 1.0 Detailed Specification 4.2).
+-- What a DIN reader promises (MIDI 1.0 Detailed Specification 4.2): the relation between what it keeps, the entries that it
+-- took, and what it told of them. Nobody has to believe it: a fresh reader stands for nothing, each call keeps it, and each
+-- answer is bound to the reading of a byte stream.
 --
---   is_longest left told   where a run was told, no data byte stands next in the input
-use Rattle.std.specs.Prelude.{◌≡◌, ℕ, ◌+◌, false, List, [], ◌∷◌, ◌++◌, length}
-use Rattle.mb_message.specs.Bytes.{is_data}
+--   Stands now es told      the reader took these entries and told this
+--   Goes was now ..         what a call took, what it answered, and that the reader stands for both
+--   IsFrontTaken ..         a call takes a front of its input
+--   IsLongest left seen     a run is the longest that stands side by side in the input
+use Rattle.std.specs.Prelude.{◌≡◌, ℕ, ◌+◌, ◌<◌, ◌≤◌, true, false, List, [], ◌∷◌, ◌++◌, map, length}
+use Rattle.mb_message.specs.Bytes.{is_data, is_channel}
 use Rattle.mb_message.specs.declared.event.Seen.{Seen}
 use Rattle.mb_message.specs.declared.event.Seen.TheVariants as seen
 use Rattle.mb_message.specs.declared.event.Ev.TheVariants as event
-use Rattle.mb_din.specs.State.{State}
+use Rattle.mb_stream.specs.Payload.{Entry, Heard, Silent, heard_from}
+use Rattle.mb_stream.specs.Groups.{last_of}
+use Rattle.mb_stream.specs.Told.{Told, Known}
+use Rattle.mb_stream.specs.Reading.{so_far}
+use Rattle.mb_din.specs.State.{State, idle, state_of}
+
+-- offsets rise from the first number on, and all are below the second
+abbrev pub RisesTo : (low high : ℕ) → List Entry → Type 0
+RisesTo low high [] = low ≤ high
+RisesTo low high (Silent s ∷ es) = RisesTo low high es
+RisesTo low high (Heard x ∷ es) = (low ≤ x.at) × RisesTo (x.at + 1) high es
+
+-- only channel statuses run without a byte of their own
+abbrev pub OnlyChannelsRun : List Entry → Type 0
+OnlyChannelsRun [] = Unit {0}
+OnlyChannelsRun (Silent s ∷ es) = (is_channel s ≡ true) × OnlyChannelsRun es
+OnlyChannelsRun (Heard x ∷ es) = OnlyChannelsRun es
+
+abbrev pub IsFront : {X : Type 0} → List X → List X → Type 0
+IsFront {X} front all = (rest : List X) × (all ≡ front ++ rest)
+
+-- What was told of the next byte before it was taken: nothing, or one truncated message or broken SysEx, and then the
+-- reader keeps nothing.
+abbrev pub IsAhead : (now was : State) → List Known → Type 0
+IsAhead now was [] = now ≡ was
+IsAhead now was (k ∷ []) = (now ≡ idle was) × (k.at ≡ was.offset) × (k.rank < 3)
+IsAhead now was (k ∷ l ∷ ks) = ⊥
+
+-- all that is known of the entries was told, and perhaps what the next byte made known of them
+pub record Stands (now : State) (entries : List Entry) (told : List Known) : Type 0 where
+  pub ahead : List Known
+  pub told_is : told ≡ so_far entries ++ ahead
+  pub rises : RisesTo 0 now.offset entries
+  pub runs : OnlyChannelsRun entries
+  pub state : IsAhead now (state_of now.offset (last_of entries)) ahead
+
+-- A call took the front of its input and answered what it tells, and stands for both. `following` is what stands in the
+-- payload from the input on.
+pub record Goes (was now : State) (moment : ℕ) (input left : List ℕ) (answer : List Told) (entries : List Entry) (told : List Known) (following : List Entry) : Type 0 where
+  pub taken : List ℕ
+  pub front : input ≡ taken ++ left
+  pub offset : now.offset ≡ was.offset + length taken
+  pub fresh : List Known
+  pub answer_is : map (λ k. k.told) fresh ≡ answer
+  pub stands : Stands now (entries ++ heard_from was.offset moment taken) (told ++ fresh)
+  pub still : IsFront (told ++ fresh) (so_far (entries ++ following))
+
+-- a call takes a front of its input, and its offset rises by as much
+abbrev pub IsFrontTaken : (was now : State) → (input left : List ℕ) → Type 0
+IsFrontTaken was now input left =
+    (taken : List ℕ) × (input ≡ taken ++ left) × (now.offset ≡ was.offset + length taken)
 
 -- the list is empty, or no data byte begins it
 abbrev pub NoDataNext : List ℕ → Type 0
@@ -17,8 +72,3 @@ NoDataNext (b ∷ bs) = is_data b ≡ false
 abbrev pub IsLongest : List ℕ → Seen → Type 0
 IsLongest left (seen.Ev (event.Run bytes)) = NoDataNext left
 IsLongest left _ = Unit {0}
-
--- a call takes a front of its input, and its offset rises by as much
-abbrev pub IsFrontTaken : (was now : State) → (input left : List ℕ) → Type 0
-IsFrontTaken was now input left =
-    (taken : List ℕ) × (input ≡ taken ++ left) × (now.offset ≡ was.offset + length taken)

@@ -44,13 +44,13 @@ head_byte (a ∷ ds) = Some a.byte
 abbrev pub whole_by : (is_channel_status : Bool) → ℕ → Progress
 whole_by c s = if c then Running s else Idle
 
--- with a message of the status begun, or with none
-abbrev pub progress_at : (begun : Option ℕ) (is_channel_status : Bool) (status : ℕ) → List Spot → Progress
-progress_at None c s ds = whole_by c s
-progress_at (Some at) c s ds = Begun s (head_byte (odd_one ds)) at
+-- with a message of the status begun, or with none; the data after the last whole pair
+abbrev pub progress_at : (begun : Option ℕ) (is_channel_status : Bool) (status : ℕ) (odd : List Spot) → Progress
+progress_at None c s odd = whole_by c s
+progress_at (Some at) c s odd = Begun s (head_byte odd) at
 
 abbrev pub progress_by : (count : Option ℕ) (is_channel_status : Bool) (status : ℕ) → Option Spot → List Spot → Progress
-progress_by k c s own ds = progress_at (begun_by k c own ds) c s ds
+progress_by k c s own ds = progress_at (begun_by k c own ds) c s (odd_one ds)
 
 abbrev pub progress_under : Option ℕ → Option Spot → List Spot → Progress
 progress_under None own ds = Idle

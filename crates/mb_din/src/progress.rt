@@ -4,7 +4,7 @@ ghost use Rattle.std.specs.Prelude.{◌≡◌, true, false, [], ◌∷◌, None,
 ghost use Rattle.mb_message.specs.Bytes.{is_data, is_realtime, is_short, data_length};
 ghost use Rattle.mb_message.specs.Signs.{ShortSign};
 ghost use Rattle.mb_stream.specs.Told.{Marks, Notes};
-ghost use Rattle.mb_din.specs.State.{is_sound, lacks_one};
+ghost use Rattle.mb_din.specs.State.{is_sound, lacks_one, is_running_progress, is_open_progress};
 ghost use Rattle.mb_din.specs.Turn.{answer, told_by, is_one, whole, first_step, data_step, status_step, told_before, told_at_end, end_told, realtime_told, data_front, data_rest};
 
 use mb_message::{Ev, Note, NoteKind, Rt, Seen, Short, data_len};
@@ -143,6 +143,22 @@ pub(crate) fn before_status(progress: Progress, byte: u8) -> Option<Seen<'static
         Progress::InSysex if byte != 0xf7 => Some(Seen::Ev(Ev::Abort)),
         _ => None,
     }
+}
+
+/// Whether a channel status runs, and no message of it is begun.
+#[inline(always)]
+pub(crate) fn is_running(progress: Progress) -> bool
+    ensures { result ≡ is_running_progress progress }
+{
+    matches!(progress, Progress::Running(_))
+}
+
+/// Whether a SysEx is open.
+#[inline(always)]
+pub(crate) fn is_open(progress: Progress) -> bool
+    ensures { result ≡ is_open_progress progress }
+{
+    matches!(progress, Progress::InSysex)
 }
 
 /// What only the end makes known.

@@ -2,12 +2,18 @@
 
 ghost use Rattle.std.specs.Prelude.{◌≡◌, ◌+◌, ◌*◌, ◌<◌, ◌≤◌, ◌^◌, true, [], ◌∷◌, ◌++◌, ℕ, List, length, OnSome, IfSome, IfNone};
 ghost use Rattle.mb_message.specs.Bytes.{is_channel};
+ghost use Rattle.mb_stream.specs.Payload.{Entry, Silent, heard_from};
+ghost use Rattle.mb_stream.specs.Groups.{last_of, is_sysex};
+ghost use Rattle.mb_stream.specs.Told.{Known, at_end, may_run};
+ghost use Rattle.mb_stream.specs.Reading.{so_far};
+ghost use Rattle.mb_stream.specs.Working.{RisesFrom};
 ghost use Rattle.mb_din.specs.State.{owed, open_now, may_run_now, fresh, is_sound};
-ghost use Rattle.mb_din.specs.Turn.{answer, told_by, told_at_end, one, run, turn};
-ghost use Rattle.mb_din.specs.Reader.{IsFrontTaken, IsLongest};
+ghost use Rattle.mb_din.specs.Turn.{answer, told_by, one, run, turn};
+ghost use Rattle.mb_din.specs.Reader.{Stands, Goes, IsFront, IsFrontTaken, IsLongest};
 
 use crate::progress::{
-    Progress, at_end, before_status, realtime, take_data, take_run, take_status,
+    Progress, at_end, before_status, is_open, is_running, realtime, take_data, take_run,
+    take_status,
 };
 use mb_message::{Ev, Seen};
 use std::marker::Model;
@@ -34,6 +40,7 @@ impl DinReader {
     /// The next byte has offset 0.
     pub fn new() -> DinReader
         ensures state { result ≡ fresh }
+        ensures stands { Stands result [] [] }
     {
         DinReader {
             offset: 0,
@@ -45,7 +52,8 @@ impl DinReader {
     pub fn place(&mut self, offset: u64)
         requires { self.old.offset ≤ offset }
         ensures offset { self.new.offset ≡ offset }
-        ensures progress { self.new.progress ≡ self.old.progress }
+        ensures same { self.new ≡ record self.old { offset = offset } }
+        ensures stands { (entries : List Entry) → Stands self.old entries (so_far entries) → Stands self.new entries (so_far entries) }
     {
         self.offset = offset;
     }
@@ -56,10 +64,19 @@ impl DinReader {
     #[inline(always)]
     pub fn next<'a>(&mut self, input: &mut &'a [u8]) -> Option<Seen<'a>>
         requires early { self.old.offset + length input.old.now < 2 ^ 63 }
+
+        // What it takes and answers, whatever was taken and told before, and whatever follows the input in the payload.
+        ensures stands { (moment : ℕ) (entries : List Entry) (told : List Known) (more : List Entry) →
+            Stands self.old entries told → RisesFrom (self.old.offset + length input.old.now) more →
+            IsFront told (so_far (entries ++ (heard_from self.old.offset moment input.old.now ++ more))) →
+            Goes self.old self.new moment input.old.now input.new.now (answer result) entries told (heard_from self.old.offset moment input.old.now ++ more) }
         ensures front { IsFrontTaken self.old self.new input.old.now input.new.now }
         ensures end { self.new.offset + length input.new.now ≡ self.old.offset + length input.old.now }
         ensures some { OnSome result (answer result ≡ [] → ⊥) }
         ensures none { IfNone result (input.new.now ≡ []) }
+        ensures all_told { IfNone result ((moment : ℕ) (entries : List Entry) (told : List Known) → Stands self.old entries told →
+            IsFront told (so_far (entries ++ heard_from self.old.offset moment input.old.now)) →
+            told ≡ so_far (entries ++ heard_from self.old.offset moment input.old.now)) }
         ensures longest { IfSome result (IsLongest input.new.now) }
 
         // A caller's loop ends by this.
@@ -71,8 +88,9 @@ impl DinReader {
     /// What only the end of the line makes known: a message that was begun and not finished, or an open SysEx. The
     /// reader then stands as a fresh one does, for bytes from its present offset on.
     pub fn finish(&mut self) -> Option<Seen<'static>>
-        ensures state { answer result ≡ told_at_end self.old.progress }
+        ensures told { (entries : List Entry) → Stands self.old entries (so_far entries) → answer result ≡ at_end (last_of entries) }
         ensures as_fresh { self.new ≡ record fresh { offset = self.old.offset } }
+        ensures stands { Stands self.new [] [] }
     {
         let told = at_end(self.progress);
         self.progress = Progress::Idle;
@@ -84,6 +102,7 @@ impl DinReader {
         requires { is_channel status ≡ true }
         ensures offset { self.new.offset ≡ self.old.offset }
         ensures runs { may_run_now self.new ≡ true }
+        ensures stands { (entries : List Entry) → Stands self.old entries (so_far entries) → Stands self.new (entries ++ Silent status ∷ []) (so_far entries) }
     {
         self.progress = Progress::Running(status);
     }
@@ -93,16 +112,18 @@ impl DinReader {
     #[inline(always)]
     pub fn may_run(&self) -> bool
         ensures state { result ≡ may_run_now self.now }
+        ensures law { (entries : List Entry) → Stands self.now entries (so_far entries) → result ≡ may_run (last_of entries) }
     {
-        matches!(self.progress, Progress::Running(_))
+        is_running(self.progress)
     }
 
     /// Whether a SysEx is open.
     #[inline(always)]
     pub fn in_sysex(&self) -> bool
         ensures state { result ≡ open_now self.now }
+        ensures law { (entries : List Entry) → Stands self.now entries (so_far entries) → result ≡ is_sysex (last_of entries) }
     {
-        matches!(self.progress, Progress::InSysex)
+        is_open(self.progress)
     }
 
     /// `next`, exactly.

@@ -1,5 +1,5 @@
 use super::*;
-use mb_message::{Ev, Note, NoteKind, Rt, Seen, Short};
+use mb_message::{Buf, Ev, Note, NoteKind, Rt, Seen, Short};
 use std::test::Fail;
 
 #[test]
@@ -52,5 +52,26 @@ fn a_placed_byte_has_its_offset(rt: HostRuntime) -> Result<(), Fail> {
     };
     assert_eq!(rt; reader.next(&mut input), Some(Seen::Note(stray)));
     assert_eq!(rt; reader.next(&mut input), None);
+    Ok(())
+}
+
+#[test]
+fn running_status_and_a_sysex_are_written(rt: HostRuntime) -> Result<(), Fail> {
+    let mut writer = DinWriter::new(true);
+    let mut out = Buf::new();
+    let note = Short::new(0x90, 0x3c, 0x64).ok_or("a note")?;
+    let clock = Rt::new(0xf8).ok_or("a clock")?;
+    writer.put(Ev::Short(note), &mut out);
+    writer.put(Ev::Rt(clock), &mut out);
+    writer.put(Ev::Short(note), &mut out);
+    writer.put(Ev::Open, &mut out);
+    writer.put(Ev::Run(&[1, 2]), &mut out);
+    assert!(rt; writer.in_sysex());
+    writer.put(Ev::End, &mut out);
+    writer.finish(&mut out);
+    assert_eq!(rt;
+        out.as_slice(),
+        [0x90, 0x3c, 0x64, 0xf8, 0x3c, 0x64, 0xf0, 1, 2, 0xf7].as_slice()
+    );
     Ok(())
 }

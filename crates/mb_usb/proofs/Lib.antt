@@ -1,8 +1,15 @@
-mod Events
+pub mod CarrierLaws
 mod Examples
+pub mod GoodCuts
+pub mod HeldBytes
+pub mod HeldClean
+pub mod Loops
+pub mod PacketFacts
 mod PacketPlaces
+pub mod PayloadMarks
 mod Places
 mod RecordingExamples
 pub mod RunningLemmas
 pub mod UsbLaw
 pub mod WriterLemmas
+pub mod WrittenCuts

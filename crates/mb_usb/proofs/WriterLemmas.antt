@@ -1,32 +1,15 @@
 -- What a writer stands for, and what its calls append.
-use Rattle.std.proofs.Common.{◌≡◌, ℕ, Bool, true, false, List, [], ◌∷◌, ◌++◌, map, refl, sym, ap, subst, ◌∙◌}
-use Rattle.std.specs.List.{list_all}
-use Rattle.std.proofs.lemmas.Bool.{false≢true}
-use Rattle.mb_message.specs.Signs.{Sign, ByteSign, AbortSign, suits_sign, signs_of_event, suits_event, open_behind}
+use Rattle.std.proofs.Common.{◌≡◌, ℕ, Bool, true, List, [], ◌++◌, sym, ap, subst, ◌∙◌}
+use Rattle.mb_message.specs.Signs.{Sign, AbortSign, signs_of_event, suits_event, open_behind}
 use Rattle.mb_message.specs.declared.event.Ev.{Ev}
-use Rattle.mb_message.specs.declared.event.Ev.TheVariants as event
 use Rattle.mb_stream.specs.Appended.{Appended}
-use Rattle.mb_stream.proofs.StandingLemmas.{both, joined, is_open-append, open_from}
+use Rattle.mb_stream.proofs.EventLemmas.{open_from-event}
+use Rattle.mb_stream.proofs.StandingLemmas.{joined, is_open-append, open_from}
 use Rattle.mb_usb.specs.Running.{usb_at, usb_from, pending_from}
 use Rattle.mb_usb.specs.Writer.{Writer, Stands}
 use Rattle.mb_usb.specs.Written.{usb_live, usb_written}
 use Rattle.mb_usb.proofs.RunningLemmas.{usb_from-append, pending_from-append}
 use Rattle.mb_usb.proofs.UsbLaw as law
-
--- a run leaves a SysEx open as it is
-open_from-run : (o : Bool) (bytes : List ℕ) → list_all (suits_sign o) (map ByteSign bytes) ≡ true → open_from o (map ByteSign bytes) ≡ o
-open_from-run o [] h = refl
-open_from-run true (b ∷ bytes) h =
-    open_from-run true bytes (both (suits_sign true (ByteSign b)) (list_all (suits_sign true) (map ByteSign bytes)) h).1
-open_from-run false (b ∷ bytes) h = absurd (false≢true h)
-
-open_from-event : (o : Bool) (e : Ev) → suits_event o e ≡ true → open_from o (signs_of_event e) ≡ open_behind o e
-open_from-event o (event.Short s) h = refl
-open_from-event o (event.Rt r) h = refl
-open_from-event o event.Open h = refl
-open_from-event o (event.Run bytes) h = open_from-run o bytes.now h
-open_from-event o event.End h = refl
-open_from-event o event.Abort h = refl
 
 pub Stands-put : (old new : Writer) (e : Ev) (ms : List Sign) → suits_event old.in_sysex e ≡ true →
     new.in_sysex ≡ open_behind old.in_sysex e → new.pending ≡ pending_from old.pending (signs_of_event e) →

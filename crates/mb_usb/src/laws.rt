@@ -1,8 +1,11 @@
 //! Laws of the definitions. Each function does nothing; what is proved is its contract.
 
-ghost use Rattle.std.specs.Prelude.{◌≡◌, ℕ, List, [], ◌∷◌, ◌++◌, true};
+ghost use Rattle.std.specs.Prelude.{◌≡◌, ◌+◌, ◌*◌, ◌≤◌, ℕ, List, [], ◌∷◌, ◌++◌, length, true};
 ghost use Rattle.mb_message.specs.Signs.{Sign, AbortSign};
-ghost use Rattle.mb_stream.specs.Standing.{suited, is_open};
+ghost use Rattle.mb_stream.specs.Denotation.{denotation};
+ghost use Rattle.mb_stream.specs.Reading.{notes_of, signs_of};
+ghost use Rattle.mb_stream.specs.Standing.{AreValid, suited, is_open};
+ghost use Rattle.mb_usb.specs.Reading.{usb_reading, usb_whole};
 ghost use Rattle.mb_usb.specs.Running.{usb_at, usb_from, pending_from};
 ghost use Rattle.mb_usb.specs.Written.{usb_live, usb_written};
 
@@ -14,4 +17,23 @@ pub fn usb_writing()
         usb_written cable marks ≡ usb_live cable marks ++ usb_at cable (pending_from [] marks) AbortSign }
     ensures broken { (cable : ℕ) (marks : List Sign) → suited marks ≡ true → is_open marks ≡ true →
         usb_live cable (marks ++ AbortSign ∷ []) ≡ usb_written cable marks }
+{}
+
+/// What is read of a cable's written marks means what they mean, is at most one mark more, and has no note. It is whole
+/// packets, of at most four bytes a mark.
+pub fn usb_carries()
+    ensures means { (cable : ℕ) (marks : List Sign) → suited marks ≡ true → AreValid marks →
+        denotation (signs_of (usb_reading cable (usb_written cable marks))) ≡ denotation marks }
+    ensures one_more { (cable : ℕ) (marks : List Sign) → suited marks ≡ true → AreValid marks →
+        length (signs_of (usb_reading cable (usb_written cable marks))) ≤ length marks + 1 }
+    ensures size { (cable : ℕ) (marks : List Sign) → suited marks ≡ true → length (usb_written cable marks) ≤ 4 * length marks }
+    ensures clean { (cable : ℕ) (marks : List Sign) → suited marks ≡ true → AreValid marks →
+        notes_of (usb_reading cable (usb_written cable marks)) ≡ [] }
+    ensures whole { (cable : ℕ) (marks : List Sign) → suited marks ≡ true → usb_whole (usb_written cable marks) ≡ true }
+{}
+
+/// The marks of the reading of any bytes are valid and stand where a stream can have them.
+pub fn usb_reading_suits()
+    ensures suits { (cable : ℕ) (bytes : List ℕ) → suited (signs_of (usb_reading cable bytes)) ≡ true }
+    ensures valid { (cable : ℕ) (bytes : List ℕ) → AreValid (signs_of (usb_reading cable bytes)) }
 {}

@@ -1,3 +1,12 @@
+ghost use Rattle.std.specs.Prelude.{◌≡◌, ◌+◌, ◌*◌, ◌≤◌, true, List, ◌++◌, length, map};
+ghost use Rattle.std.specs.List.{list_all};
+ghost use Rattle.arrayvec.specs.ArrayVec.{array_vec_len};
+ghost use Rattle.mb_message.specs.Bytes.{is_data};
+ghost use Rattle.mb_message.specs.Signs.{Sign, ByteSign};
+ghost use Rattle.mb_stream.specs.Appended.{Appended};
+ghost use Rattle.mb_usb.specs.Writer.{Stands};
+ghost use Rattle.mb_usb.specs.Written.{usb_live};
+
 use super::*;
 use mb_message::{Buf, Ev, Rt, Short};
 use std::test::Fail;
@@ -42,5 +51,34 @@ fn what_waits_is_written_at_the_finish(rt: HostRuntime) -> Result<(), Fail> {
     writer.finish(&mut out);
     assert!(rt; !writer.in_sysex());
     assert_eq!(rt; out.as_slice(), [0x1f, 0xf0, 0, 0].as_slice());
+    Ok(())
+}
+
+/// A run of any length, in pieces of 16: a caller's loop is proved by the public clauses.
+fn put_all(writer: &mut UsbWriter, bytes: &[u8], out: &mut Buf)
+    requires room { array_vec_len out.old + PUT_ROOM * length bytes.now ≤ 1024 }
+    requires open { writer.old.in_sysex ≡ true }
+    requires run { list_all is_data bytes.now ≡ true }
+    ensures in_sysex { writer.new.in_sysex ≡ true }
+    ensures stands { (marks : List Sign) → Stands writer.old marks → Stands writer.new (marks ++ map ByteSign bytes.now) }
+    ensures written { (marks : List Sign) → Stands writer.old marks →
+        Appended out.old.items out.new.items
+        (usb_live writer.old.cable marks) (usb_live writer.old.cable (marks ++ map ByteSign bytes.now)) }
+{
+    let mut rest = bytes;
+    'pieces: while !rest.is_empty() {
+        let (piece, tail) = rest.split_at(rest.len().min(16));
+        writer.put(Ev::Run(piece), out);
+        rest = tail;
+    }
+}
+
+#[test]
+fn a_long_run_goes_in_pieces(rt: HostRuntime) -> Result<(), Fail> {
+    let mut writer = UsbWriter::new(0);
+    let mut out = Buf::new();
+    writer.put(Ev::Open, &mut out);
+    put_all(&mut writer, &[1; 17], &mut out);
+    assert_eq!(rt; out.len(), 24);
     Ok(())
 }

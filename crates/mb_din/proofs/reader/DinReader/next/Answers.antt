@@ -1,3 +1,5 @@
+use Rattle.mb_din.specs.Turn.{answer}
+use Rattle.mb_din.proofs.ReaderLaw.{next_stands, all_told}
 use Rattle.mb_din.proofs.TurnLemmas.{front_of, end_of, none_of, falls_of, longest_of}
 use Rattle.mb_din.proofs.reader.DinReader.next.Goals as goal
 
@@ -20,3 +22,11 @@ returns-clause-progress c =
 pub returns-clause-end : goal.returns-clause-end
 returns-clause-end c =
     end_of c.args.self.now c.advance.new.self c.args.input.now.now c.advance.new.input.now (returns-clause-front c)
+
+pub returns-clause-stands : goal.returns-clause-stands
+returns-clause-stands c =
+    next_stands c.args.self.now c.advance.new.self c.args.input.now.now c.advance.new.input.now (answer c.advance.result) c.advance.ensures.told c.advance.ensures.left c.advance.ensures.behind
+
+pub returns-clause-all_told : goal.returns-clause-all_told
+returns-clause-all_told c =
+    all_told c.advance.result c.args.self.now c.advance.new.self c.args.input.now.now c.advance.new.input.now c.advance.ensures.told c.advance.ensures.left c.advance.ensures.behind (returns-clause-none c)

@@ -1,5 +1,5 @@
 use Rattle.std.proofs.Common.{sym, ◌∙◌}
-use Rattle.mb_usb.proofs.Events.{run_facts}
+use Rattle.mb_stream.proofs.EventLemmas.{run_facts}
 use Rattle.mb_usb.proofs.writer.UsbWriter.write.Goals as goal
 
 pub returns-in-Run-clause-in_sysex : goal.returns-in-Run-clause-in_sysex

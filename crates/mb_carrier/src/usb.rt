@@ -1,0 +1,37 @@
+//! A cable of USB-MIDI packets behind the face of all carriers.
+
+ghost use Rattle.std.specs.Prelude.{ℕ, List};
+
+use crate::EventWriter;
+use mb_message::{Buf, Ev};
+use mb_usb::UsbWriter;
+
+impl EventWriter for UsbWriter {
+    ghost use Rattle.mb_usb.specs.Writer.{Writer, Stands};
+    ghost use Rattle.mb_carrier.specs.declared.spec.Spec.TheVariants.{Usb};
+    ghost use Rattle.mb_carrier.specs.UsbLaws.{live-stays, live-closes};
+
+    ghost spec = { λ w. Usb w.cable };
+
+    ghost in_sysex = { λ w. w.in_sysex };
+
+    ghost stands = { λ w marks. Stands w marks };
+
+    #[inline(always)]
+    fn put(&mut self, ev: Ev<'_>, out: &mut Buf) {
+        UsbWriter::put(self, ev, out);
+    }
+
+    #[inline(always)]
+    fn finish(&mut self, out: &mut Buf) {
+        UsbWriter::finish(self, out);
+    }
+
+    ghost each_suits = { λ w marks stands. stands.each_suits };
+
+    ghost stays = { λ w marks more suits. live-stays w.cable marks more suits };
+
+    ghost closes = { λ w marks suits. live-closes w.cable marks suits };
+
+    ghost open_now = { λ w marks stands. stands.open_now };
+}

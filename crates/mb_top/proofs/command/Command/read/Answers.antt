@@ -1,0 +1,16 @@
+use Rattle.std.proofs.Common.{◌≡◌, refl, sym, subst, ap, ◌∙◌, arith, ◌∷◌, [], List, ℕ}
+use Rattle.std.proofs.lemmas.Grind.{common_steps}
+use Rattle.std.specs.Prelude.{Some}
+use Rattle.mb_carrier.specs.Port.{IsRead}
+use Rattle.mb_carrier.specs.Word.{word_of}
+use Rattle.mb_carrier.specs.declared.spec.Spec.{Spec}
+use Rattle.mb_top.proofs.WordLemmas.{three_words, not_false}
+use Rattle.std.specs.Cmp.Lexicographic.{same_text}
+use Rattle.mb_top.proofs.command.Command.read.Goals as goal
+
+pub returns-in-Din-clause-found : goal.returns-in-Din-clause-found
+returns-in-Din-clause-found c =
+    record {
+      words_are = three_words _ _ _ _ (grind (arith, common_steps)) (c.word.ensures ∙ ap Some (same_text _ _ (not_false _ (sym c.ne.ensures ∙ c.if-ne.false)))) (c.word-2.ensures ∙ ap Some c.in_ok-first.ensures.word) (c.word-3.ensures ∙ ap Some c.in_ok-last.ensures.word);
+      built = (subst IsRead (sym c.in-Din.is) tt, refl, c.in_ok-last.ensures.found);
+    }

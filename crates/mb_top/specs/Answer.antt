@@ -1,0 +1,96 @@
+-- What the top call answers, and what each answer says of the desk.
+--
+--   code_of, text_of       of an answer, its number, and the text on standard error
+--   taken_off, added_to    what a call took off a handle, and what it wrote to one
+--   Ends ..                what an answer says of the bytes left at first, those read and those written
+--   Answered ..            all that a call did to the desk
+use Rattle.std.specs.Prelude.{◌≡◌, ℕ, ◌-◌, ◌<◌, ◌≤◌, true, List, [], ◌∷◌, ◌++◌, length, take, drop, ◌⊎◌, codes}
+use Rattle.mb_outside.specs.Cause.{Rose}
+use Rattle.mb_outside.specs.Contents.{Contents, after_read, after_write}
+use Rattle.mb_outside.specs.Taking.{IsFront}
+use Rattle.mb_carrier.specs.Carrier.{whole}
+use Rattle.mb_carrier.specs.Conversion.{through, live_through}
+use Rattle.mb_top.specs.Command.{Command, Converting, Means}
+use Rattle.mb_top.specs.declared.status.Status.{Status}
+use Rattle.mb_top.specs.declared.status.Status.TheVariants.{Done, Usage, ReadFault, WriteFault, TooLong, NoMemory}
+
+abbrev pub code_of : Status → ℕ
+code_of Done = 0
+code_of Usage = 2
+code_of ReadFault = 3
+code_of WriteFault = 4
+code_of TooLong = 8
+code_of NoMemory = 9
+
+abbrev pub text_of : Status → List ℕ
+text_of Done = []
+text_of Usage = codes "usage: midibridge convert [tally] SPEC SPEC .. / trace SPEC / check SPEC / run RIGFILE / selftest START COUNT\n"
+text_of ReadFault = codes "read fault\n"
+text_of WriteFault = codes "write fault\n"
+text_of TooLong = codes "input is too long\n"
+text_of NoMemory = codes "no memory\n"
+
+-- what a call took off a handle, and what it wrote to one
+abbrev pub taken_off : (handle : ℕ) (before after : Contents) → List ℕ
+taken_off handle before after = drop (length (before.taken handle)) (after.taken handle)
+
+abbrev pub added_to : (handle : ℕ) (before after : Contents) → List ℕ
+added_to handle before after = drop (length (before.written handle)) (after.written handle)
+
+-- no read gives more than this many bytes
+abbrev pub PIECE : ℕ
+PIECE = 512
+
+abbrev pub all_but_last : (n : ℕ) → List ℕ → List ℕ
+all_but_last n bytes = take (length bytes - n) bytes
+
+-- A conversion: all of the input, converted; or at a fault the part that was known, written in full, or a front of the
+-- conversion that lacks at most what the last read gave.
+abbrev pub EndsAs : Command → (limit : ℕ) → (left input output : List ℕ) → Status → Type 0
+EndsAs (Converting first between last) limit left input output Done =
+    (left ≡ input) × (length input < limit) × (whole first input ≡ true) × (output ≡ through first between last input)
+EndsAs (Converting first between last) limit left input output Usage = ⊥
+EndsAs (Converting first between last) limit left input output ReadFault = output ≡ live_through first between last input
+EndsAs (Converting first between last) limit left input output WriteFault =
+    IsFront output (through first between last input) × IsFront (live_through first between last (all_but_last PIECE input)) output
+EndsAs (Converting first between last) limit left input output TooLong =
+    (length input ≡ limit) × (output ≡ live_through first between last input)
+EndsAs (Converting first between last) limit left input output NoMemory = (input ≡ []) × (output ≡ [])
+
+-- words that mean no command read and write nothing
+abbrev pub Ends : (words : List (List ℕ)) (limit : ℕ) (left input output : List ℕ) → Status → Type 0
+Ends words limit left input output Usage = (input ≡ []) × (output ≡ [])
+Ends words limit left input output status = (c : Command) → Means words c → EndsAs c limit left input output status
+
+-- a front of a text was said, and all of it unless writing failed
+pub record Says (rose : Type 0) (said text : List ℕ) : Type 0 where
+  pub front : IsFront said text
+  pub all : (said ≡ text) ⊎ rose
+
+-- only standard input is read, only standard output and standard error are written
+abbrev pub changed : (input output said : List ℕ) → Contents → Contents
+changed input output said c = after_write 2 said (after_write 1 output (after_read 0 (length input) c))
+
+pub record Answered (words : List (List ℕ)) (limit : ℕ) (before after : Contents) (rose : Type 0) (answer : ℕ) : Type 0 where
+  pub contents : after ≡ changed (taken_off 0 before after) (added_to 1 before after) (added_to 2 before after) before
+  pub front : IsFront (taken_off 0 before after) (before.left 0)
+  pub within : length (taken_off 0 before after) ≤ limit
+  pub status : Status
+  pub number : answer ≡ code_of status
+  pub ends : Ends words limit (before.left 0) (taken_off 0 before after) (added_to 1 before after) status
+  pub text : Says rose (added_to 2 before after) (text_of status)
+
+-- inside: a command read these bytes and wrote those, and changed nothing else
+pub record Ran (c : Command) (limit : ℕ) (before after : Contents) (status : Status) : Type 0 where
+  pub input : List ℕ
+  pub output : List ℕ
+  pub contents : after ≡ after_write 1 output (after_read 0 (length input) before)
+  pub front : IsFront input (before.left 0)
+  pub within : length input ≤ limit
+  pub ends : EndsAs c limit (before.left 0) input output status
+
+-- a fault has its cause
+abbrev pub HasFault : (reads_before reads_after writes_before writes_after : ℕ) → Status → Type 0
+HasFault reads reads_now writes writes_now ReadFault = Rose reads reads_now
+HasFault reads reads_now writes writes_now WriteFault = Rose writes writes_now
+HasFault reads reads_now writes writes_now _ = Unit {0}

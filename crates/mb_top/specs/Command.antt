@@ -1,0 +1,23 @@
+-- What the words of a command line mean.
+--
+--   Command            a conversion by two or more specs
+--   words_of c         its words
+--   IsBuilt c          it can be run
+--   Means words c      these words are that command
+use Rattle.std.specs.Prelude.{◌≡◌, ℕ, List, [], ◌∷◌, ◌++◌, map, codes}
+use Rattle.mb_carrier.specs.Port.{IsRead}
+use Rattle.mb_carrier.specs.Word.{IsSpec, word_of}
+use Rattle.mb_carrier.specs.declared.spec.Spec.{Spec}
+
+pub data Command : Type 0 where
+  Converting : (first : Spec) (between : List Spec) (last : Spec) → Command
+
+abbrev pub words_of : Command → List (List ℕ)
+words_of (Converting first between last) = codes "convert" ∷ word_of first ∷ (map word_of between ++ word_of last ∷ [])
+
+abbrev pub IsBuilt : Command → Type 0
+IsBuilt (Converting first between last) = IsRead first × (between ≡ []) × IsSpec last
+
+pub record Means (words : List (List ℕ)) (c : Command) : Type 0 where
+  pub words_are : words ≡ words_of c
+  pub built : IsBuilt c
