@@ -48,15 +48,15 @@ once-other : (p : Passed) (source : ℕ) → p.source ≢ source → filter (at_
 once-other p source apart =
     filter-one (at_once source) p false (ap (λ t. t && is_realtime_mark p.mark) (other_number p.source source apart))
 
-record Keeps (h : History) : Type 0 where
-  fits : Fits h.now
+pub record Keeps (h : History) : Type 0 where
+  pub fits : Fits h.now
   turns : (source : ℕ) → filter (in_turn source) h.taken ≡ filter (in_turn source) h.passed ++ waiting h.now source
   realtimes : (source : ℕ) → filter (at_once source) h.taken ≡ filter (at_once source) h.passed ++ filter (at_once source) (one h.now.offered)
 
 -- an offer
 
 -- what waits of a source before an offer, and the mark offered, wait after it
-abbrev taken_mark : (source moment : ℕ) → Mark → Passed
+abbrev pub taken_mark : (source moment : ℕ) → Mark → Passed
 taken_mark source moment mk = record { source = source; arrival = moment; mark = mk }
 
 waiting-own : (source moment : ℕ) (mk : Mark) (links : List Link) (link : Link) (passes : Bool) →
@@ -265,7 +265,13 @@ not-true : (b : Bool) → not b ≡ true → b ≡ false
 not-true true h = sym h
 not-true false h = refl
 
-keeps-call : (h : History) (call : Call) → Keeps h → Keeps (after_call h call)
+-- a mark that may be offered is of a source that there is
+pub offer_source : (m : Merger) (source moment : ℕ) (mk : Mark) → may_offer m source moment mk ≡ true → source < length m.links
+offer_source m source moment mk may =
+    below-true source (length m.links)
+    (both (nat_lt source (length m.links)) (suits_sign (link_of m source).in_sysex (sign_of mk) && (nat_le (link_of m source).last moment && (not m.draining && has_room m source mk))) may).0
+
+pub keeps-call : (h : History) (call : Call) → Keeps h → Keeps (after_call h call)
 keeps-call h Next k = keeps-next h h.now.offered refl k
 keeps-call h (Offer source moment mk) k = by_test (may_offer h.now source moment mk) refl where
   offered : may_offer h.now source moment mk ≡ true → Keeps (taken_in h source moment mk)
@@ -285,7 +291,7 @@ keeps-calls : (h : History) (calls : List Call) → Keeps h → Keeps (after_cal
 keeps-calls h [] k = k
 keeps-calls h (call ∷ calls) k = keeps-calls (after_call h call) calls (keeps-call h call k)
 
-keeps-begins : (m : Merger) → IsFresh m → Keeps (begins m)
+pub keeps-begins : (m : Merger) → IsFresh m → Keeps (begins m)
 keeps-begins m fresh = record {
   fits = record {
     turn = λ source. subst (λ o. Turn o source (link_of m source)) (sym fresh.nothing) (record {

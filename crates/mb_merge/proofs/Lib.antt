@@ -5,3 +5,4 @@ pub mod Flows
 pub mod Fits
 pub mod Histories
 pub mod Fewer
+pub mod Tracks

@@ -4,9 +4,11 @@
 --   History               what was taken and what has passed, in order, and the router now
 --   after_calls h calls   the history behind calls
 --   waiting m s           the marks of a source that were taken and haven't passed, but for real-time ones
+--   open_by s marks       whether a SysEx of a source is open behind marks
 --   IsFresh m             nothing was taken
 --   IsOrderly h           no mark passes twice and none is lost, each source's order is kept, no two dumps mix, and a
 --                         drained router holds a mark only where it waits for another source
+--   IsTracked start h     what is kept of each source is what the marks taken and passed say; its outs stay
 use Rattle.std.specs.Prelude.{◌≡◌, ◌≢◌, ℕ, ◌<◌, ◌≤◌, ◌⊎◌, Bool, true, false, not, ◌&&◌, ◌==◌, nat_lt, nat_le, if◌then◌else◌, List, [], ◌∷◌, ◌++◌, length, map, filter, Option, Some, None}
 use Rattle.mb_message.specs.declared.mark.Mark.{Mark}
 use Rattle.mb_message.specs.Signs.{sign_of, suits_sign}
@@ -14,7 +16,7 @@ use Rattle.mb_merge.specs.declared.source.Held.{Held}
 use Rattle.mb_merge.specs.declared.router.Passed.{Passed}
 use Rattle.mb_merge.specs.declared.waiting.Head.{Head}
 use Rattle.mb_merge.specs.Links.{Link, Merger, link_at, link_of, share, is_owned}
-use Rattle.mb_merge.specs.Passing.{has_room, is_realtime_mark, next_of, offered_in, ready_head}
+use Rattle.mb_merge.specs.Passing.{has_room, is_realtime_mark, next_of, offered_in, opens, ready_head}
 
 pub data Call : Type 0 where
   Offer : (source moment : ℕ) → Mark → Call
@@ -111,3 +113,23 @@ IsLeast links (Some best) =
     × (best.source < length links)
     × ((source : ℕ) (other : Head) → source < length links → ready_head links source ≡ Some other →
     (best.arrival < other.arrival) ⊎ ((best.arrival ≡ other.arrival) × (best.source ≤ source)))
+
+abbrev pub open_step : (source : ℕ) → Bool → Passed → Bool
+open_step source before p = if p.source == source then opens before p.mark else before
+
+abbrev pub open_from : (source : ℕ) → (before : Bool) → List Passed → Bool
+open_from source before [] = before
+open_from source before (p ∷ ps) = open_from source (open_step source before p) ps
+
+-- From a SysEx's start to its end or break.
+abbrev pub open_by : (source : ℕ) → List Passed → Bool
+open_by source marks = open_from source false marks
+
+pub record IsTracked (start : Merger) (h : History) : Type 0 where
+  pub sources : length h.now.links ≡ length start.links
+  pub outs : h.now.outs ≡ start.outs
+  pub routes : (source : ℕ) → (link_of h.now source).outs ≡ (link_of start source).outs
+  -- a source owns from the passing of its SysEx's start to the passing of its end or break
+  pub opened : (source : ℕ) → (link_of h.now source).is_open ≡ open_by source h.passed
+  -- and its next mark suits by what was taken
+  pub sysex : (source : ℕ) → (link_of h.now source).in_sysex ≡ open_by source h.taken
