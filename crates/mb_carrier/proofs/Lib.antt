@@ -1,6 +1,8 @@
 pub mod ChainLemmas
 pub mod FeedLemmas
 pub mod LineLemmas
+pub mod ListLemmas
+pub mod MomentLemmas
 pub mod SpecLaws
 pub mod WordLemmas
 pub mod HopLemmas

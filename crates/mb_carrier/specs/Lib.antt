@@ -4,6 +4,8 @@ pub mod DinLaws
 pub mod Hop
 pub mod Laws
 pub mod Line
+pub mod Lines
+pub mod Listing
 pub mod Port
 pub mod UsbLaws
 pub mod Word

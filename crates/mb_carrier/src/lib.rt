@@ -6,13 +6,14 @@ mod events;
 mod feed;
 mod hop;
 pub mod laws;
+mod listing;
 mod reader;
 mod spec;
 mod usb;
 mod writer;
 
 pub use events::{EventReader, EventWriter, ROOM};
-pub use hop::{feed_hop, finish_hop};
+pub use hop::{feed_hop, finish_hop, list_end, list_hop};
 pub use reader::PortReader;
 pub use spec::Spec;
 pub use writer::PortWriter;
