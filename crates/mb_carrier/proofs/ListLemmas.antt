@@ -220,7 +220,7 @@ listing-step s other traced was now next noted_was noted noted_next piece rest l
     }
 
 -- what is known is known of all: a front of it in lines is a front of its lines
-front-lines : (traced : Bool) (ks all : List Known) → IsFront ks all → IsFront (lines_known traced ks) (lines_known traced all)
+pub front-lines : (traced : Bool) (ks all : List Known) → IsFront ks all → IsFront (lines_known traced ks) (lines_known traced all)
 front-lines traced ks all f = (
   lines_known traced f.0,
   ap (lines_known traced) f.1 ∙ (ap (lines_told traced) (map-append (λ (k : Known). k.told) ks f.0) ∙ lines_told-append traced (told_of ks) (told_of f.0)),

@@ -10,10 +10,10 @@ use Rattle.mb_carrier.specs.Conversion.{through}
 use Rattle.mb_carrier.specs.Word.{word_of}
 use Rattle.mb_carrier.specs.declared.spec.Spec.{Spec}
 use Rattle.mb_carrier.proofs.WordLemmas.{word_of-same}
-use Rattle.mb_top.specs.Command.{Command, Converting, Means, words_of}
+use Rattle.mb_top.specs.Command.{Command, Converting, Listing, Means, words_of}
 use Rattle.mb_top.specs.Answer.{Answered, RanWords, Ran, Ends, EndsAs, HasFault, Says, changed, taken_off, added_to, code_of, text_of, is_usage, wants_memory}
 use Rattle.mb_top.specs.declared.status.Status.{Status}
-use Rattle.mb_top.specs.declared.status.Status.TheVariants.{Done, Usage, ReadFault, WriteFault, TooLong, NoMemory}
+use Rattle.mb_top.specs.declared.status.Status.TheVariants.{Done, Noted, Usage, ReadFault, WriteFault, TooLong, NoMemory}
 
 -- a text was written as far as writing went
 pub said : {T E S : Type 0} (r : Result T E) (tells : Bool) (contents : S → Contents) (read_faults : S → ℕ) (before after : S) (text : List ℕ) (rose : Type 0) →
@@ -26,15 +26,45 @@ said (Err x) tells contents read_faults before after text rose ok err cause t =
     (err.0, (err.2).contents_are t, record { front = err.1; all = inr cause })
 
 -- words are one command
-pub one_command : (first last : Spec) (words : List (List ℕ)) (c : Command) → Means words c → Means words (Converting first [] last) → Converting first [] last ≡ c
-one_command first last words (Converting f between l) m n = same between (m.built).1 (sym n.words_are ∙ m.words_are)
+
+only-between : (f l : Spec) (b : List Spec) → b ≡ [] → Converting f [] l ≡ Converting f b l
+only-between f l [] e = refl
+only-between f l (x ∷ xs) e = cc
+
+same-conversion : (f g k l : Spec) (b d : List Spec) → b ≡ [] → d ≡ [] → words_of (Converting f b l) ≡ words_of (Converting g d k) → Converting f b l ≡ Converting g d k
+same-conversion f g k l [] [] e h w =
+    let first : word_of f ≡ word_of g = cc in
+    let last : word_of l ≡ word_of k = cc in
+    ap (λ (s : Spec). Converting s [] l) (word_of-same f g first) ∙ ap (λ (s : Spec). Converting g [] s) (word_of-same l k last)
+same-conversion f g k l (x ∷ xs) d e h w = cc
+same-conversion f g k l [] (x ∷ xs) e h w = cc
+
+no-listing : (f l s : Spec) (b : List Spec) (traced : Bool) → b ≡ [] → words_of (Converting f b l) ≡ words_of (Listing traced s) → ⊥
+no-listing f l s [] traced e w = cc
+no-listing f l s (x ∷ xs) traced e w = cc
+
+abbrev first_byte : List (List ℕ) → ℕ
+first_byte [] = 0
+first_byte ([] ∷ words) = 0
+first_byte ((b ∷ bs) ∷ words) = b
+
+same-listing : (s u : Spec) (t v : Bool) → words_of (Listing t s) ≡ words_of (Listing v u) → Listing t s ≡ Listing v u
+same-listing s u true true w = ap (Listing true) (word_of-same s u (second _ _ _ _ w))
   where
-    same : (b : List Spec) → b ≡ [] → words_of (Converting first [] last) ≡ words_of (Converting f b l) → Converting first [] last ≡ Converting f b l
-    same [] e w =
-        let h : word_of first ≡ word_of f = cc in
-        let k : word_of last ≡ word_of l = cc in
-        ap (λ (s : Spec). Converting s [] last) (word_of-same first f h) ∙ ap (λ (s : Spec). Converting f [] s) (word_of-same last l k)
-    same (x ∷ xs) e w = cc
+    second : (a b c d : List ℕ) → a ∷ c ∷ [] ≡ b ∷ d ∷ [] → c ≡ d
+    second a b c d e = cc
+same-listing s u false false w = ap (Listing false) (word_of-same s u (second _ _ _ _ w))
+  where
+    second : (a b c d : List ℕ) → a ∷ c ∷ [] ≡ b ∷ d ∷ [] → c ≡ d
+    second a b c d e = cc
+same-listing s u true false w = (let e : 116 ≡ 99 = ap first_byte w in absurd (omega (arith, e)))
+same-listing s u false true w = (let e : 99 ≡ 116 = ap first_byte w in absurd (omega (arith, e)))
+
+pub one_command : (words : List (List ℕ)) (c d : Command) → Means words c → Means words d → c ≡ d
+one_command words (Converting f b l) (Converting g d k) m n = same-conversion f g k l b d (m.built).1 (n.built).1 (sym m.words_are ∙ n.words_are)
+one_command words (Converting f b l) (Listing t s) m n = absurd (no-listing f l s b t (m.built).1 (sym m.words_are ∙ n.words_are))
+one_command words (Listing t s) (Converting f b l) m n = absurd (no-listing f l s b t (n.built).1 (sym n.words_are ∙ m.words_are))
+one_command words (Listing t s) (Listing v u) m n = same-listing s u t v (sym m.words_are ∙ n.words_are)
 
 wrong : true ≡ false → ⊥
 wrong e = cc
@@ -42,22 +72,23 @@ wrong e = cc
 pub ends-words : (status : Status) (words : List (List ℕ)) (limit : ℕ) (left input output : List ℕ) (c : Command) →
     is_usage status ≡ false → ((d : Command) → Means words d → c ≡ d) → EndsAs c limit left input output status → Ends words limit left input output status
 ends-words Done words limit left input output c u one e = λ d m. subst (λ (x : Command). EndsAs x limit left input output Done) (one d m) e
+ends-words Noted words limit left input output c u one e = λ d m. subst (λ (x : Command). EndsAs x limit left input output Noted) (one d m) e
 ends-words Usage words limit left input output c u one e = absurd (wrong u)
 ends-words ReadFault words limit left input output c u one e = λ d m. subst (λ (x : Command). EndsAs x limit left input output ReadFault) (one d m) e
 ends-words WriteFault words limit left input output c u one e = λ d m. subst (λ (x : Command). EndsAs x limit left input output WriteFault) (one d m) e
 ends-words TooLong words limit left input output c u one e = λ d m. subst (λ (x : Command). EndsAs x limit left input output TooLong) (one d m) e
 ends-words NoMemory words limit left input output c u one e = λ d m. subst (λ (x : Command). EndsAs x limit left input output NoMemory) (one d m) e
 
-pub ran-words : (first last : Spec) (words : List (List ℕ)) (limit : ℕ) (before after : Contents) (status : Status) →
-    is_usage status ≡ false → Means words (Converting first [] last) → Ran (Converting first [] last) limit before after status → RanWords words limit before after status
-ran-words first last words limit before after status u m r =
+pub ran-words : (c : Command) (words : List (List ℕ)) (limit : ℕ) (before after : Contents) (status : Status) →
+    is_usage status ≡ false → Means words c → Ran c limit before after status → RanWords words limit before after status
+ran-words c words limit before after status u m r =
     record {
       input = r.input;
       output = r.output;
       contents = r.contents;
       front = r.front;
       within = r.within;
-      ends = ends-words status words limit (before.left 0) r.input r.output (Converting first [] last) u (λ d n. one_command first last words d n m) r.ends;
+      ends = ends-words status words limit (before.left 0) r.input r.output c u (λ d n. one_command words c d m n) r.ends;
     }
 
 -- what a caller sees of what was read, written and said
@@ -105,6 +136,7 @@ done words limit before after rose answer first between last zero m a = by_statu
     by_status : (status : Status) → code_of status ≡ 0 → Ends words limit (before.left 0) (taken_off 0 before after) (added_to 1 before after) status →
         EndsAs (Converting first between last) limit (before.left 0) (taken_off 0 before after) (added_to 1 before after) Done
     by_status Done e ends = ends (Converting first between last) m
+    by_status Noted e ends = absurd (omega (arith, e))
     by_status Usage e ends = absurd (omega (arith, e))
     by_status ReadFault e ends = absurd (omega (arith, e))
     by_status WriteFault e ends = absurd (omega (arith, e))
@@ -117,6 +149,7 @@ pub completes : (words : List (List ℕ)) (limit : ℕ) (before after : Contents
     (code_of status ≡ 3 → reads) → (code_of status ≡ 4 → writes) → (reads → ⊥) → (writes → ⊥) → length (before.left 0) < limit →
     RanWords words limit before after status → code_of status ≡ 0
 completes words limit before after rose reads writes Done first between last m u w r f nr nw short ran = refl
+completes words limit before after rose reads writes Noted first between last m u w r f nr nw short ran = absurd ((ran.ends (Converting first between last) m).1)
 completes words limit before after rose reads writes Usage first between last m u w r f nr nw short ran = absurd (wrong u)
 completes words limit before after rose reads writes ReadFault first between last m u w r f nr nw short ran = absurd (nr (r refl))
 completes words limit before after rose reads writes WriteFault first between last m u w r f nr nw short ran = absurd (nw (f refl))
@@ -136,6 +169,7 @@ says-text rose words text other same s = subst (λ (t : List ℕ). Says rose wor
 
 pub not_usage : (status : Status) → (status ≡ Usage → ⊥) → is_usage status ≡ false
 not_usage Done h = refl
+not_usage Noted h = refl
 not_usage Usage h = absurd (h refl)
 not_usage ReadFault h = refl
 not_usage WriteFault h = refl
@@ -145,6 +179,7 @@ not_usage NoMemory h = refl
 pub read_fault : (reads reads_mid reads_now writes writes_mid : ℕ) (status : Status) → reads_now ≡ reads_mid → HasFault reads reads_mid writes writes_mid status → code_of status ≡ 3 → Rose reads reads_now
 read_fault reads reads_mid reads_now writes writes_mid ReadFault same f e = subst (λ (n : ℕ). Rose reads n) (sym same) f
 read_fault reads reads_mid reads_now writes writes_mid Done same f e = absurd (omega (arith, e))
+read_fault reads reads_mid reads_now writes writes_mid Noted same f e = absurd (omega (arith, e))
 read_fault reads reads_mid reads_now writes writes_mid Usage same f e = absurd (omega (arith, e))
 read_fault reads reads_mid reads_now writes writes_mid WriteFault same f e = absurd (omega (arith, e))
 read_fault reads reads_mid reads_now writes writes_mid TooLong same f e = absurd (omega (arith, e))
@@ -153,6 +188,7 @@ read_fault reads reads_mid reads_now writes writes_mid NoMemory same f e = absur
 pub write_fault : (reads reads_mid writes writes_mid writes_now : ℕ) (status : Status) → writes_mid ≤ writes_now → HasFault reads reads_mid writes writes_mid status → code_of status ≡ 4 → Rose writes writes_now
 write_fault reads reads_mid writes writes_mid writes_now WriteFault le f e = omega (arith, f)
 write_fault reads reads_mid writes writes_mid writes_now Done le f e = absurd (omega (arith, e))
+write_fault reads reads_mid writes writes_mid writes_now Noted le f e = absurd (omega (arith, e))
 write_fault reads reads_mid writes writes_mid writes_now Usage le f e = absurd (omega (arith, e))
 write_fault reads reads_mid writes writes_mid writes_now ReadFault le f e = absurd (omega (arith, e))
 write_fault reads reads_mid writes writes_mid writes_now TooLong le f e = absurd (omega (arith, e))

@@ -10,13 +10,14 @@ use Rattle.mb_outside.specs.Cause.{Rose}
 use Rattle.mb_outside.specs.Contents.{Contents, after_read, after_write}
 use Rattle.mb_outside.specs.Taking.{IsFront}
 use Rattle.mb_carrier.specs.Carrier.{whole}
-use Rattle.mb_carrier.specs.Conversion.{through, live_through}
-use Rattle.mb_top.specs.Command.{Command, Converting, Means}
+use Rattle.mb_top.specs.Command.{Command, Means}
+use Rattle.mb_top.specs.Output.{source_of, output_of, live_output_of, HasNotes, HasNoNotes}
 use Rattle.mb_top.specs.declared.status.Status.{Status}
-use Rattle.mb_top.specs.declared.status.Status.TheVariants.{Done, Usage, ReadFault, WriteFault, TooLong, NoMemory}
+use Rattle.mb_top.specs.declared.status.Status.TheVariants.{Done, Noted, Usage, ReadFault, WriteFault, TooLong, NoMemory}
 
 abbrev pub code_of : Status → ℕ
 code_of Done = 0
+code_of Noted = 1
 code_of Usage = 2
 code_of ReadFault = 3
 code_of WriteFault = 4
@@ -25,6 +26,7 @@ code_of NoMemory = 9
 
 abbrev pub text_of : Status → List ℕ
 text_of Done = []
+text_of Noted = []
 text_of Usage = codes "usage: midibridge convert [tally] SPEC SPEC .. / trace SPEC / check SPEC / run RIGFILE / selftest START COUNT\n"
 text_of ReadFault = codes "read fault\n"
 text_of WriteFault = codes "write fault\n"
@@ -45,18 +47,23 @@ PIECE = 512
 abbrev pub all_but_last : (n : ℕ) → List ℕ → List ℕ
 all_but_last n bytes = take (length bytes - n) bytes
 
--- A conversion: all of the input, converted; or at a fault the part that was known, written in full, or a front of the
--- conversion that lacks at most what the last read gave.
+-- All of the input was read, and all of the output written.
+pub record WentThrough (c : Command) (limit : ℕ) (left input output : List ℕ) : Type 0 where
+  pub all : left ≡ input
+  pub below : length input < limit
+  pub is_whole : whole (source_of c) input ≡ true
+  pub output_is : output ≡ output_of c input
+
+-- What a command did, by its answer. At a fault the part that was known is written in full, or a front of the output that
+-- lacks at most what the last read gave.
 abbrev pub EndsAs : Command → (limit : ℕ) → (left input output : List ℕ) → Status → Type 0
-EndsAs (Converting first between last) limit left input output Done =
-    (left ≡ input) × (length input < limit) × (whole first input ≡ true) × (output ≡ through first between last input)
-EndsAs (Converting first between last) limit left input output Usage = ⊥
-EndsAs (Converting first between last) limit left input output ReadFault = output ≡ live_through first between last input
-EndsAs (Converting first between last) limit left input output WriteFault =
-    IsFront output (through first between last input) × IsFront (live_through first between last (all_but_last PIECE input)) output
-EndsAs (Converting first between last) limit left input output TooLong =
-    (length input ≡ limit) × (output ≡ live_through first between last input)
-EndsAs (Converting first between last) limit left input output NoMemory = (input ≡ []) × (output ≡ [])
+EndsAs c limit left input output Done = WentThrough c limit left input output × HasNoNotes c input
+EndsAs c limit left input output Noted = WentThrough c limit left input output × HasNotes c input
+EndsAs c limit left input output Usage = ⊥
+EndsAs c limit left input output ReadFault = output ≡ live_output_of c input
+EndsAs c limit left input output WriteFault = IsFront output (output_of c input) × IsFront (live_output_of c (all_but_last PIECE input)) output
+EndsAs c limit left input output TooLong = (length input ≡ limit) × (output ≡ live_output_of c input)
+EndsAs c limit left input output NoMemory = (input ≡ []) × (output ≡ [])
 
 -- words that mean no command read and write nothing
 abbrev pub Ends : (words : List (List ℕ)) (limit : ℕ) (left input output : List ℕ) → Status → Type 0
@@ -116,4 +123,4 @@ is_usage _ = false
 
 -- the answers that there are
 abbrev pub is_answer : ℕ → Bool
-is_answer n = list_any (λ code. code == n) (0 ∷ 2 ∷ 3 ∷ 4 ∷ 8 ∷ [])
+is_answer n = list_any (λ code. code == n) (0 ∷ 1 ∷ 2 ∷ 3 ∷ 4 ∷ 8 ∷ [])

@@ -13,15 +13,16 @@ ghost use Rattle.mb_top.specs.Answer.{Answered, RanWords, HasFault, Says, taken_
 ghost use Rattle.mb_top.specs.declared.status.Status.TheVariants as status;
 
 use crate::command::Command;
-use crate::convert::convert;
 use crate::status::Status;
+use crate::stream::carry_out;
 use mb_outside::{Args, Desk, DeskOut, Out, Refused};
 use std::alloc::Global;
 
 /// The most bytes that are taken from one recording.
 pub const LIMIT: u64 = 1 << 40;
 
-/// Does all that the program does, and answers its exit status: 0 all was done, 2 the words are no command, 3 reading
+/// Does all that the program does, and answers its exit status: 0 all was done, 1 `check` or `trace` told a note,
+/// 2 the words are no command, 3 reading
 /// failed, 4 writing failed, 8 the input goes on at the limit.
 pub fn bridge<D: Desk>(alloc: Global, words: &Args, desk: &mut D) -> u8
     // All that it does to a desk that tells its contents: nothing but what the answer says.
@@ -104,7 +105,7 @@ fn run<D: Desk>(alloc: Global, words: &Args, desk: &mut D, limit: u64) -> Status
     ensures writes { D.write_faults desk.old ≤ D.write_faults desk.new }
 {
     match Command::read(words) {
-        Some(Command::Convert { first, last }) => convert(alloc, first, last, desk, limit),
+        Some(command) => carry_out(alloc, command, desk, limit),
         None => Status::Usage,
     }
 }

@@ -8,6 +8,8 @@ ghost use Rattle.mb_top.specs.Answer.{code_of, text_of};
 pub(crate) enum Status {
     /// All was done.
     Done,
+    /// All was done, and there were notes.
+    Noted,
     /// The words are no command.
     Usage,
     /// Reading failed.
@@ -27,6 +29,7 @@ impl Status {
     {
         match self {
             Status::Done => 0,
+            Status::Noted => 1,
             Status::Usage => 2,
             Status::ReadFault => 3,
             Status::WriteFault => 4,
@@ -40,7 +43,7 @@ impl Status {
         ensures { result.now ≡ text_of self }
     {
         match self {
-            Status::Done => "",
+            Status::Done | Status::Noted => "",
             Status::Usage => {
                 "usage: midibridge convert [tally] SPEC SPEC .. / trace SPEC / check SPEC / run RIGFILE / selftest START COUNT\n"
             }

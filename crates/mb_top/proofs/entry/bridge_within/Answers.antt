@@ -15,22 +15,22 @@ returns-clause-contents g c = λ tells.
 pub returns-clause-headline : goal.returns-clause-headline
 returns-clause-headline g c = λ first between last tells m zero.
     let d = done _ _ _ _ _ _ first between last zero m (returns-clause-contents g c tells) in
-    ap (den last) d.3 ∙ through-means first between last _
+    ap (den last) (d.0).output_is ∙ through-means first between last _
 
 pub returns-clause-exact : goal.returns-clause-exact
 returns-clause-exact g c = λ first between last tells m zero.
     let d = done _ _ _ _ _ _ first between last zero m (returns-clause-contents g c tells) in
-    d.3 ∙ ap (through first between last) (sym d.0)
+    (d.0).output_is ∙ ap (through first between last) (sym (d.0).all)
 
 pub returns-clause-clean : goal.returns-clause-clean
 returns-clause-clean g c = λ first between last tells m zero.
     let d = done _ _ _ _ _ _ first between last zero m (returns-clause-contents g c tells) in
-    ap (notes_of last) d.3 ∙ through-clean first between last _
+    ap (notes_of last) (d.0).output_is ∙ through-clean first between last _
 
 pub returns-clause-whole : goal.returns-clause-whole
 returns-clause-whole g c = λ first between last tells m zero.
     let d = done _ _ _ _ _ _ first between last zero m (returns-clause-contents g c tells) in
-    ap (whole last) d.3 ∙ through-whole first between last _
+    ap (whole last) (d.0).output_is ∙ through-whole first between last _
 
 pub returns-clause-complete : goal.returns-clause-complete
 returns-clause-complete g c = λ first between last tells m no_reads no_writes short is_whole.

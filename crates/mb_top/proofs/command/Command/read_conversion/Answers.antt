@@ -1,12 +1,10 @@
 use Rattle.std.proofs.Common.{◌≡◌, refl, sym, subst, ap, ◌∙◌, arith, ◌∷◌, [], List, ℕ}
 use Rattle.std.proofs.lemmas.Grind.{common_steps}
 use Rattle.std.specs.Prelude.{Some}
-use Rattle.mb_carrier.specs.Port.{IsRead}
-use Rattle.mb_carrier.specs.Word.{word_of}
-use Rattle.mb_carrier.specs.declared.spec.Spec.{Spec}
-use Rattle.mb_top.proofs.WordLemmas.{three_words, not_false}
 use Rattle.std.specs.Cmp.Lexicographic.{same_text}
-use Rattle.mb_top.proofs.command.Command.read.Goals as goal
+use Rattle.mb_carrier.specs.Port.{IsRead}
+use Rattle.mb_top.proofs.WordLemmas.{three_words, not_false}
+use Rattle.mb_top.proofs.command.Command.read_conversion.Goals as goal
 
 pub returns-in-Din-clause-found : goal.returns-in-Din-clause-found
 returns-in-Din-clause-found c =

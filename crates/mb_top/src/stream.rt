@@ -1,53 +1,50 @@
-//! `convert`: read a piece, write all that it gives, read on.
+//! The loop over pieces: read a piece, write all that it gives, read on.
 
 ghost use Rattle.std.specs.Prelude.{◌≡◌, ℕ, ◌<◌, ◌≤◌, ◌^◌, [], false, IsTrue};
 ghost use Rattle.mb_outside.specs.Cause.{Rose};
-ghost use Rattle.mb_carrier.specs.Port.{IsRead, reader_spec, reader_offset, ReaderStands, writer_spec, WriterStands};
-ghost use Rattle.mb_carrier.specs.Word.{IsSpec};
-ghost use Rattle.mb_top.specs.Command.{Converting};
+ghost use Rattle.mb_top.specs.Command.{IsBuilt};
+ghost use Rattle.mb_top.specs.Meaning.{meaning};
+ghost use Rattle.mb_top.specs.Job.{job_command, job_offset, JobStands};
 ghost use Rattle.mb_top.specs.Answer.{Ran, HasFault, is_usage, wants_memory};
 
-use crate::hop::Hop;
+use crate::command::Command;
+use crate::job::Job;
 use crate::status::Status;
-use mb_carrier::Spec;
 use mb_outside::Desk;
 use std::alloc::Global;
 
 /// The most that one read gives.
 pub(crate) const PIECE: usize = 512;
 
-/// Converts standard input to standard output, at most `limit` bytes.
-pub(crate) fn convert<D: Desk>(
+/// Carries out a command on standard input, of which it takes at most `limit` bytes.
+pub(crate) fn carry_out<D: Desk>(
     alloc: Global,
-    first: Spec,
-    last: Spec,
+    command: Command,
     desk: &mut D,
     limit: u64,
 ) -> Status
     requires most { limit ≤ 2 ^ 40 }
-    requires first { IsRead first }
-    requires last { IsSpec last }
-    ensures ran { IsTrue D.tells → Ran (Converting first [] last) limit (D.contents desk.old) (D.contents desk.new) result }
+    requires built { IsBuilt (meaning command) }
+    ensures ran { IsTrue D.tells → Ran (meaning command) limit (D.contents desk.old) (D.contents desk.new) result }
     ensures command { is_usage result ≡ false }
     ensures memory { wants_memory result ≡ false }
     ensures fault { HasFault (D.read_faults desk.old) (D.read_faults desk.new) (D.write_faults desk.old) (D.write_faults desk.new) result }
     ensures reads { D.read_faults desk.old ≤ D.read_faults desk.new }
     ensures writes { D.write_faults desk.old ≤ D.write_faults desk.new }
 {
-    match Hop::new(alloc, first, last) {
-        Ok(hop) => stream(hop, desk, limit),
+    match Job::new(alloc, command) {
+        Ok(job) => stream(job, desk, limit),
         Err(_) => Status::NoMemory,
     }
 }
 
 /// The loop over pieces.
-fn stream<D: Desk>(mut hop: Hop, desk: &mut D, limit: u64) -> Status
+fn stream<D: Desk>(mut job: Job, desk: &mut D, limit: u64) -> Status
     requires most { limit ≤ 2 ^ 40 }
-    requires read { IsRead (reader_spec hop.reader) }
-    requires offset { reader_offset hop.reader ≡ 0 }
-    requires reader { ReaderStands hop.reader [] [] }
-    requires writer { WriterStands hop.writer [] }
-    ensures ran { IsTrue D.tells → Ran (Converting (reader_spec hop.reader) [] (writer_spec hop.writer)) limit (D.contents desk.old) (D.contents desk.new) result }
+    requires built { IsBuilt (job_command job) }
+    requires offset { job_offset job ≡ 0 }
+    requires stands { JobStands job [] }
+    ensures ran { IsTrue D.tells → Ran (job_command job) limit (D.contents desk.old) (D.contents desk.new) result }
     ensures command { is_usage result ≡ false }
     ensures memory { wants_memory result ≡ false }
     ensures fault { HasFault (D.read_faults desk.old) (D.read_faults desk.new) (D.write_faults desk.old) (D.write_faults desk.new) result }
@@ -62,12 +59,13 @@ fn stream<D: Desk>(mut hop: Hop, desk: &mut D, limit: u64) -> Status
             return Status::ReadFault;
         };
         if count == 0 {
-            return match hop.finish(desk) {
-                Ok(()) => Status::Done,
+            return match job.finish(desk) {
+                Ok(true) => Status::Noted,
+                Ok(false) => Status::Done,
                 Err(_) => Status::WriteFault,
             };
         }
-        if let Err(_) = hop.feed(&buffer[..count], desk) {
+        if let Err(_) = job.feed(&buffer[..count], desk) {
             return Status::WriteFault;
         }
         taken += count as u64;
