@@ -21,7 +21,7 @@ pub struct Collector {
     /// How many of the items aren't broken.
     ended: u64,
     /// The data of the open SysEx.
-    open: Option<Bytes>,
+    sysex: Option<Bytes>,
 }
 
 impl Model for Collector {
@@ -36,7 +36,7 @@ impl Model for Collector {
       items = map meant c.items.items;
       realtimes = map timed c.rts.items;
       ended = c.ended;
-      open_data = c.open;
+      open_data = c.sysex;
     } };
 
     ghost invariant = { λ c. c.ended ≤ vec_len c.items };
@@ -52,7 +52,7 @@ impl Collector {
             items: Vec::new(alloc),
             rts: Vec::new(alloc),
             ended: 0,
-            open: None,
+            sysex: None,
         }
     }
 
@@ -60,7 +60,7 @@ impl Collector {
     pub fn in_sysex(&self) -> bool
         ensures { result ≡ in_sysex self.now }
     {
-        self.open.is_some()
+        self.sysex.is_some()
     }
 
     /// The next mark, which suits. Without memory nothing changes.
@@ -79,11 +79,11 @@ impl Collector {
         let Collector {
             items,
             rts,
-            open,
+            sysex,
             ..
         } = self;
         Ok(Den {
-            items: finished(items, open)?,
+            items: finished(items, sysex)?,
             rts: Rts::new(rts),
         })
     }
@@ -98,7 +98,7 @@ impl Collector {
             Mark::Short(short) => self.message(short),
             Mark::Rt(message) => self.realtime(message),
             Mark::Open => {
-                self.open = Some(Bytes::new(self.alloc));
+                self.sysex = Some(Bytes::new(self.alloc));
                 Ok(())
             }
             Mark::Byte(byte) => self.byte(byte),
@@ -133,7 +133,7 @@ impl Collector {
         ensures ok { OnOk result (self.new ≡ with_mark self.old (ByteSign byte)) }
         ensures err { OnErr result (self.new ≡ self.old) }
     {
-        match &mut self.open {
+        match &mut self.sysex {
             Some(data) => data.push(byte),
             None => Ok(()),
         }
@@ -145,7 +145,7 @@ impl Collector {
         ensures err { OnErr result (self.new ≡ self.old) }
     {
         room(&mut self.items)?;
-        if let Some(data) = self.open.take() {
+        if let Some(data) = self.sysex.take() {
             push(&mut self.items, Item::Syx(data))?;
             self.ended += 1;
         }
@@ -157,7 +157,7 @@ impl Collector {
         ensures err { OnErr result (self.new ≡ self.old) }
     {
         room(&mut self.items)?;
-        if let Some(data) = self.open.take() {
+        if let Some(data) = self.sysex.take() {
             push(&mut self.items, Item::Broken(data))?;
         }
         Ok(())
