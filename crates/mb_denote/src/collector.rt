@@ -88,7 +88,7 @@ impl Collector {
         })
     }
 
-    // `put`, said of the value.
+    // `put`, said exactly.
     fn collect(&mut self, mark: Mark) -> Result<(), Memory>
         requires suits { suits_sign (in_sysex self.old) (sign_of mark) ≡ true }
         ensures ok { OnOk result (self.new ≡ with_mark self.old (sign_of mark)) }
@@ -188,7 +188,7 @@ fn push<T: Drop>(items: &mut Vec<T>, item: T) -> Result<(), Memory>
     }
 }
 
-/// Room for one value more, so that the next push isn't refused.
+/// Room for one value more. It is made before an open SysEx is taken, so that nothing has to be put back after a refusal.
 fn room(items: &mut Vec<Item>) -> Result<(), Memory>
     ensures ok { OnOk result (vec_len items.new < vec_capacity items.new) }
     ensures items { items.new.items ≡ items.old.items }
