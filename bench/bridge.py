@@ -133,7 +133,7 @@ def memory(program, room):
         dump = [b"\xf0"] + [b"\x55" * MIB] * 96 + [b"\xf7"]
         peaks.append(peak_memory(words, dump))
         print(f"{carriers:10} one SysEx of 96 MiB: peak {peaks[-1]} KiB")
-    return max(peaks) - min(peaks) <= 128  # which pages the system has loaded differs by some
+    return max(peaks) - min(peaks) <= 512  # how much of the C library the system has loaded differs from run to run
 
 
 def main():
