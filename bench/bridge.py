@@ -4,8 +4,9 @@
     bench/bridge.py [--program ./midibridge] [--mib 64] [--rounds 15] [--quick]
 
 --quick is 16 MiB and 5 rounds. Prints the median throughput as a ratio to dd and to C, for each kind of input, each sink and
-`convert din usb:0` and `convert din din`; then the peak resident memory and the time a byte at 1 MiB and at 256 MiB, and the memory
-of one System Exclusive message of 96 MiB. Ends with status 1 where an output isn't C's, or where memory grows with the input."""
+`convert din usb:0` and `convert din din`, and the same ratio to C by the processor's time, which other work on the machine changes
+less; then the peak resident memory and the time a byte at 1 MiB and at 256 MiB, and the memory of one System Exclusive message of
+96 MiB. Ends with status 1 where an output isn't C's, or where memory grows with the input."""
 import argparse
 import os
 import random
@@ -49,7 +50,7 @@ def recording(kind, size):
 
 
 def run(words, source, sink, room):
-    """Runs a program once, and returns the seconds that it took."""
+    """Runs a program once, and returns the seconds that passed, and those of the processor."""
     with open(source, "rb") as given:
         reader = None
         if sink == "pipe":
@@ -60,13 +61,14 @@ def run(words, source, sink, room):
         start = time.perf_counter()
         process = subprocess.Popen(words, stdin=given, stdout=taken, stderr=subprocess.DEVNULL)
         taken.close()
-        status = process.wait()
+        _, status, used = os.wait4(process.pid, 0)
         seconds = time.perf_counter() - start
+        process.returncode = os.waitstatus_to_exitcode(status)
         if reader:
             reader.wait()
-    if status != 0:
-        sys.exit(f"{words} ended with status {status}")
-    return seconds
+    if process.returncode != 0:
+        sys.exit(f"{words} ended with status {process.returncode}")
+    return seconds, used.ru_utime + used.ru_stime
 
 
 def peak_memory(words, blocks):
@@ -94,10 +96,10 @@ def ratios(program, plain, source, rounds, room, carriers):
         for _ in range(rounds):
             for name, words in programs.items():
                 took[name].append(run(words, source, sink, room))
-        median = lambda name: statistics.median(o / t for o, t in zip(took[name], took["ours"]))
-        speed = os.path.getsize(source) / statistics.median(took["ours"]) / 1e6
-        to_c = f"{median('C'):.2f}" if plain else "-"
-        yield sink, f"{median('dd'):.3f}", to_c, f"{speed:.0f}"
+        median = lambda name, which: statistics.median(other[which] / ours[which] for other, ours in zip(took[name], took["ours"]))
+        speed = os.path.getsize(source) / statistics.median(seconds for seconds, _ in took["ours"]) / 1e6
+        to_c = [f"{median('C', which):.2f}" if plain else "-" for which in (0, 1)]
+        yield [sink, f"{median('dd', 0):.3f}", *to_c, f"{speed:.0f}"]
 
 
 def compile_plain(room):
@@ -123,13 +125,13 @@ def memory(program, room):
     for carriers in CARRIERS:
         words = [program, "convert"] + carriers.split()
         seconds = lambda size, rounds: statistics.median(
-            run(words, make(f"{room}/in", block, size), "/dev/null", room) for _ in range(rounds)
+            run(words, make(f"{room}/in", block, size), "/dev/null", room)[1] for _ in range(rounds)
         )
         start = seconds(0, 31)
         for size, rounds in ((1, 31), (256, 3)):
             nanoseconds = (seconds(size, rounds) - start) * 1e9 / (size * MIB)
             peaks.append(peak_memory(words, (block for _ in range(size))))
-            print(f"{carriers:10} {size:4} MiB: peak {peaks[-1]} KiB, {nanoseconds:.2f} ns a byte behind the start")
+            print(f"{carriers:10} {size:4} MiB: peak {peaks[-1]} KiB, {nanoseconds:.2f} ns of the processor a byte")
         dump = [b"\xf0"] + [b"\x55" * MIB] * 96 + [b"\xf7"]
         peaks.append(peak_memory(words, dump))
         print(f"{carriers:10} one SysEx of 96 MiB: peak {peaks[-1]} KiB")
@@ -152,7 +154,7 @@ def main():
     with tempfile.TemporaryDirectory() as room:
         plain = compile_plain(room)
         print(f"{size} MiB, medians of {rounds} rounds; 1.00 is as fast" + ("" if plain else "; no C compiler, so no column for C"))
-        print(f"{'convert':10} {'input':17} {'sink':10} {'to dd':>6} {'to C':>6} {'MB/s':>6}")
+        print(f"{'convert':10} {'input':17} {'sink':10} {'to dd':>6} {'to C':>6} {'by CPU':>6} {'MB/s':>6}")
         for kind in ("channel messages", "a third SysEx"):
             source = make(f"{room}/in", recording(kind, size * MIB))
             for carriers in CARRIERS:
@@ -160,8 +162,8 @@ def main():
                 if plain and written(words, source) != written([plain, CARRIERS[carriers]], source):
                     print(f"{carriers}: the output isn't that of the C loop")
                     fine = False
-                for sink, to_dd, to_c, speed in ratios(program, plain, source, rounds, room, carriers):
-                    print(f"{carriers:10} {kind:17} {sink:10} {to_dd:>6} {to_c:>6} {speed:>6}", flush=True)
+                for sink, *numbers in ratios(program, plain, source, rounds, room, carriers):
+                    print(f"{carriers:10} {kind:17} {sink:10}", *(f"{number:>6}" for number in numbers), flush=True)
         if not given.no_memory and not memory(program, room):
             print("memory grows with the input")
             fine = False
