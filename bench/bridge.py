@@ -107,7 +107,7 @@ def compile_plain(room):
     compiler = shutil.which("cc")
     if not compiler:
         return None
-    subprocess.run([compiler, "-O2", "-o", f"{room}/plain", f"{HERE}/plain.c"], check=True)
+    subprocess.run([compiler, "-O3", "-o", f"{room}/plain", f"{HERE}/plain.c"], check=True)
     return f"{room}/plain"
 
 
