@@ -38,7 +38,7 @@ fn short(status: u8, data1: u8, data2: u8) -> Seen<'static>
     requires { is_short status data1 data2 ≡ true }
     ensures { told_by result ≡ Marks (ShortSign status data1 data2) ∷ [] }
 {
-    Seen::Ev(Ev::Short(Short::new(status, data1, data2).unwrap()))
+    Seen::Ev(Ev::Short(Short::of(status, data1, data2)))
 }
 
 /// Whether the messages of a status have one data byte.

@@ -35,6 +35,7 @@ fn values_keep_their_bytes(rt: HostRuntime) -> Result<(), Fail> {
         (note.status(), note.data1(), note.data2()),
         (0x90, 0x3c, 0x64)
     );
+    assert_eq!(rt; Short::of(0x90, 0x3c, 0x64), note);
     assert!(rt; Short::new(0x90, 0x80, 0).is_none());
     assert!(rt;
         Short::new(0xc0, 5, 1).is_none(),

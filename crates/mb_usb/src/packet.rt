@@ -39,14 +39,16 @@ pub fn put_single(cable: u8, byte: u8, out: &mut Buf)
     put_packet(cable, SINGLE, (byte, 0, 0), out);
 }
 
-/// The code index number of a short message.
+/// The code index number of a short message. The channel messages, of which most are, take one test.
 #[inline(always)]
 pub fn number_of_short(status: u8) -> u8
     ensures number { result ≡ cin_of_short status }
     ensures below { result < 16 }
 {
+    if status >= 0x80 && status < 0xf0 {
+        return status / 16;
+    }
     match status {
-        0x80..=0xef => status / 16,
         0xf2 => 3,
         0xf6 => 5,
         _ => 2,

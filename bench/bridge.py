@@ -1,0 +1,174 @@
+#!/usr/bin/env python3
+"""Times the built program on recordings made here, beside `dd bs=512` and a plain C loop (plain.c), each once a round, in turn.
+
+    bench/bridge.py [--program ./midibridge] [--mib 64] [--rounds 15] [--quick]
+
+--quick is 16 MiB and 5 rounds. Prints the median throughput as a ratio to dd and to C, for each kind of input, each sink and
+`convert din usb:0` and `convert din din`, and the same ratio to C by the processor's time, which other work on the machine changes
+less; then the peak resident memory and the time a byte at 1 MiB and at 256 MiB, and the memory of one System Exclusive message of
+96 MiB. Ends with status 1 where an output isn't C's, or where memory grows with the input."""
+import argparse
+import os
+import random
+import shutil
+import statistics
+import subprocess
+import sys
+import tempfile
+import time
+
+HERE = os.path.dirname(os.path.abspath(__file__))
+MIB = 1 << 20
+CARRIERS = {"din usb:0": "usb", "din din": "din"}  # the program's words, and those of plain.c
+SINKS = ["/dev/null", "pipe", "file"]
+
+
+def channel_messages(rng, count):
+    """Some channel messages with a clock now and then, also inside a message; half of them under running status."""
+    line, running = bytearray(), None
+    while len(line) < count:
+        status = running if running and rng.random() < 0.5 else rng.randrange(0x80, 0xF0)
+        message = [status] if status != running else []
+        message += [rng.randrange(128) for _ in range(1 if 0xC0 <= status < 0xE0 else 2)]
+        for byte in message:
+            if rng.random() < 0.04:
+                line.append(0xF8)
+            line.append(byte)
+        running = status
+    return bytes(line)
+
+
+def recording(kind, size):
+    """Bytes of a kind: one MiB made by chance with a fixed seed, again and again up to the size."""
+    rng = random.Random(7)
+    block = bytearray()
+    while len(block) < MIB:
+        block += channel_messages(rng, 200)
+        if kind == "a third SysEx":
+            block += b"\xf0" + bytes(rng.randrange(128) for _ in range(rng.randrange(4, 200))) + b"\xf7"
+    return bytes(block[:MIB]) * (size // MIB)
+
+
+def run(words, source, sink, room):
+    """Runs a program once, and returns the seconds that passed, and those of the processor."""
+    with open(source, "rb") as given:
+        reader = None
+        if sink == "pipe":
+            reader = subprocess.Popen(["cat"], stdin=subprocess.PIPE, stdout=subprocess.DEVNULL)
+            taken = reader.stdin
+        else:
+            taken = open("/dev/null" if sink == "/dev/null" else f"{room}/out", "wb")
+        start = time.perf_counter()
+        process = subprocess.Popen(words, stdin=given, stdout=taken, stderr=subprocess.DEVNULL)
+        taken.close()
+        _, status, used = os.wait4(process.pid, 0)
+        seconds = time.perf_counter() - start
+        process.returncode = os.waitstatus_to_exitcode(status)
+        if reader:
+            reader.wait()
+    if process.returncode != 0:
+        sys.exit(f"{words} ended with status {process.returncode}")
+    return seconds, used.ru_utime + used.ru_stime
+
+
+def peak_memory(words, blocks):
+    """The peak resident memory in KiB once the program has read the blocks: it is asked before its input ends."""
+    with subprocess.Popen(words, stdin=subprocess.PIPE, stdout=subprocess.DEVNULL) as process:
+        for block in blocks:
+            process.stdin.write(block)
+        process.stdin.flush()
+        with open(f"/proc/{process.pid}/status", encoding="ascii") as status:
+            return next(int(line.split()[1]) for line in status if line.startswith("VmHWM"))
+
+
+def written(words, source):
+    with open(source, "rb") as given:
+        return subprocess.run(words, stdin=given, stdout=subprocess.PIPE, check=True).stdout
+
+
+def ratios(program, plain, source, rounds, room, carriers):
+    """Rows of medians over the rounds: the program's throughput to dd's and to C's, for each sink."""
+    programs = {"dd": ["dd", "bs=512"], "ours": [program, "convert"] + carriers.split()}
+    if plain:
+        programs["C"] = [plain, CARRIERS[carriers]]
+    for sink in SINKS:
+        took = {name: [] for name in programs}
+        for _ in range(rounds):
+            for name, words in programs.items():
+                took[name].append(run(words, source, sink, room))
+        median = lambda name, which: statistics.median(other[which] / ours[which] for other, ours in zip(took[name], took["ours"]))
+        speed = os.path.getsize(source) / statistics.median(seconds for seconds, _ in took["ours"]) / 1e6
+        to_c = [f"{median('C', which):.2f}" if plain else "-" for which in (0, 1)]
+        yield [sink, f"{median('dd', 0):.3f}", *to_c, f"{speed:.0f}"]
+
+
+def compile_plain(room):
+    """The C loop, or None where there is no C compiler."""
+    compiler = shutil.which("cc")
+    if not compiler:
+        return None
+    subprocess.run([compiler, "-O3", "-o", f"{room}/plain", f"{HERE}/plain.c"], check=True)
+    return f"{room}/plain"
+
+
+def make(path, data, times=1):
+    with open(path, "wb") as file:
+        for _ in range(times):
+            file.write(data)
+    return path
+
+
+def memory(program, room):
+    """Prints memory and time a byte at 1 and 256 MiB, and the memory of one long SysEx; returns whether the memory is equal."""
+    block = recording("a third SysEx", MIB)
+    peaks = []
+    for carriers in CARRIERS:
+        words = [program, "convert"] + carriers.split()
+        seconds = lambda size, rounds: statistics.median(
+            run(words, make(f"{room}/in", block, size), "/dev/null", room)[1] for _ in range(rounds)
+        )
+        start = seconds(0, 31)
+        for size, rounds in ((1, 31), (256, 3)):
+            nanoseconds = (seconds(size, rounds) - start) * 1e9 / (size * MIB)
+            peaks.append(peak_memory(words, (block for _ in range(size))))
+            print(f"{carriers:10} {size:4} MiB: peak {peaks[-1]} KiB, {nanoseconds:.2f} ns of the processor a byte")
+        dump = [b"\xf0"] + [b"\x55" * MIB] * 96 + [b"\xf7"]
+        peaks.append(peak_memory(words, dump))
+        print(f"{carriers:10} one SysEx of 96 MiB: peak {peaks[-1]} KiB")
+    return max(peaks) - min(peaks) <= 512  # how much of the C library the system has loaded differs from run to run
+
+
+def main():
+    options = argparse.ArgumentParser(description=__doc__, formatter_class=argparse.RawDescriptionHelpFormatter)
+    options.add_argument("--program", default=f"{HERE}/../midibridge")
+    options.add_argument("--mib", type=int, default=64)
+    options.add_argument("--rounds", type=int, default=15)
+    options.add_argument("--quick", action="store_true")
+    options.add_argument("--no-memory", action="store_true")
+    given = options.parse_args()
+    size, rounds = (16, 5) if given.quick else (given.mib, given.rounds)
+    program = os.path.abspath(given.program)
+    if not os.path.exists(program):
+        sys.exit(f"no {program}: run make first")
+    fine = True
+    with tempfile.TemporaryDirectory() as room:
+        plain = compile_plain(room)
+        print(f"{size} MiB, medians of {rounds} rounds; 1.00 is as fast" + ("" if plain else "; no C compiler, so no column for C"))
+        print(f"{'convert':10} {'input':17} {'sink':10} {'to dd':>6} {'to C':>6} {'by CPU':>6} {'MB/s':>6}")
+        for kind in ("channel messages", "a third SysEx"):
+            source = make(f"{room}/in", recording(kind, size * MIB))
+            for carriers in CARRIERS:
+                words = [program, "convert"] + carriers.split()
+                if plain and written(words, source) != written([plain, CARRIERS[carriers]], source):
+                    print(f"{carriers}: the output isn't that of the C loop")
+                    fine = False
+                for sink, *numbers in ratios(program, plain, source, rounds, room, carriers):
+                    print(f"{carriers:10} {kind:17} {sink:10}", *(f"{number:>6}" for number in numbers), flush=True)
+        if not given.no_memory and not memory(program, room):
+            print("memory grows with the input")
+            fine = False
+    sys.exit(0 if fine else 1)
+
+
+if __name__ == "__main__":
+    main()

@@ -1,0 +1,121 @@
+#!/usr/bin/env bash
+# What the built program does at its edges: bad words, and streams that fail or come slowly. Ends with status 1 where one answer
+# is wrong. Run it after `make`; another program is named by its first word.
+cd "$(dirname "$0")/.." || exit 1
+program=$(realpath "${1:-./midibridge}")
+[ -x "$program" ] || { echo "no $program: run make first"; exit 1; }
+room=$(mktemp -d) || exit 1
+trap 'rm -rf "$room"' EXIT
+wrong=0
+
+# expect WHAT WANTED FOUND
+expect() {
+  [ "$2" = "$3" ] && return
+  echo "$1: wanted '$2', found '$3'"
+  wrong=1
+}
+hex() { od -An -v -tx1 | tr -d ' \n'; }
+bytes() { printf "$(printf '%s' "$1" | sed 's/../\\x&/g')"; }
+
+# Words that are no command: status 2, the usage on standard error, nothing on standard output.
+refuse() {
+  printf '\x90\x3c\x64' | "$program" "$@" >"$room/out" 2>"$room/err"
+  expect "words '$*': status" 2 $?
+  expect "words '$*': standard output" "" "$(hex <"$room/out")"
+  [ -s "$room/err" ] || expect "words '$*': standard error" "some usage" ""
+}
+refuse
+refuse convert
+refuse convert din
+refuse convert din usb
+refuse convert din usb:
+refuse convert din usb:16
+refuse convert din usb:00
+refuse convert din usb:01
+refuse convert din usb:-1
+refuse convert din "usb:1 "
+refuse convert din usb:0 usb:0
+refuse convert din USB:0
+refuse convert "" usb:0
+refuse Convert din usb:0
+refuse --help
+refuse --version
+refuse convert din $'usb:\xff'
+refuse $'\xff\xfe' din usb:0
+
+# The examples, as examples/README.md has them.
+for file in examples/*.din; do
+  wanted=$(grep -F "\`$(basename "$file")\`" examples/README.md | sed 's/.*: `\([^`]*\)` |$/\1/; s/.*`\([^`]*\)` |$/\1/' | tr -d ' ')
+  expect "$file" "$wanted" "$("$program" convert din usb:0 <"$file" | hex)"
+  given=$(grep -F "\`$(basename "$file")\`" examples/README.md | cut -d'`' -f4 | tr -d ' ')
+  expect "the bytes of $file" "$given" "$(hex <"$file")"
+done
+
+# Standard input that can't be read: status 3, nothing written, a word on standard error.
+"$program" convert din usb:0 <"$room" >"$room/out" 2>"$room/err"
+expect "a folder as standard input: status" 3 $?
+expect "a folder as standard input: standard output" "" "$(hex <"$room/out")"
+[ -s "$room/err" ] || expect "a folder as standard input: standard error" "a line" ""
+"$program" convert din usb:0 <&- >"$room/out" 2>"$room/err"
+expect "no standard input: status" 3 $?
+
+# Standard output that takes nothing: status 4.
+for carriers in "din usb:0" "din din"; do
+  printf '\x90\x3c\x64' | "$program" convert $carriers >/dev/full 2>"$room/err"
+  expect "$carriers to a full device: status" 4 $?
+  [ -s "$room/err" ] || expect "$carriers to a full device: standard error" "a line" ""
+done
+printf '\x90\x3c\x64' | "$program" convert din usb:0 >&- 2>"$room/err"
+expect "no standard output: status" 4 $?
+# with nothing to write, nothing fails
+"$program" convert din usb:0 </dev/null >/dev/full 2>"$room/err"
+expect "nothing to write to a full device: status" 0 $?
+
+# A reader that goes away: status 4, and what it took is a front of the conversion.
+yes "$(bytes 903c64)" | head -c 1000000 >"$room/in"
+"$program" convert din usb:0 <"$room/in" >"$room/whole"
+mkfifo "$room/pipe"
+head -c 5000 <"$room/pipe" >"$room/front" &
+"$program" convert din usb:0 <"$room/in" >"$room/pipe" 2>"$room/err"
+expect "a pipe that is closed: status" 4 $?
+wait
+expect "a pipe that is closed: bytes" 5000 "$(wc -c <"$room/front")"
+cmp -s -n 5000 "$room/front" "$room/whole" || expect "a pipe that is closed" "a front of the conversion" "other bytes"
+
+# A file that may not grow past its limit: what stands there is a front of the conversion, filled to the limit.
+(
+  trap '' XFSZ
+  ulimit -f 8
+  "$program" convert din usb:0 <"$room/in" >"$room/limited" 2>"$room/err"
+  exit $?
+)
+expect "a file at its limit: status" 4 $?
+expect "a file at its limit: bytes" 8192 "$(wc -c <"$room/limited")"
+cmp -s -n 8192 "$room/limited" "$room/whole" || expect "a file at its limit" "a front of the conversion" "other bytes"
+
+# A pipe that is written slowly: the packets of each piece are there before the next byte comes.
+mkfifo "$room/slow" "$room/answers"
+"$program" convert din usb:2 <"$room/slow" >"$room/answers" &
+exec 3>"$room/slow" 4<"$room/answers"
+# answer GIVEN WANTED: the packets that come within two seconds of some bytes
+answer() {
+  local found
+  bytes "$1" >&3
+  found=$(timeout 2 head -c $((${#2} / 2)) <&4 | hex)
+  expect "a slow pipe at $1" "$2" "$found"
+}
+answer 903c64 29903c64
+answer 3c "" # a message that isn't whole yet
+answer 00 29903c00
+answer f00102 24f00102
+answer 03f8 2ff80000
+answer 04f7 270304f7
+answer f001 ""
+exec 3>&-
+expect "a slow pipe at its end" 2ff000002f010000 "$(hex <&4)"
+exec 4<&-
+wait $!
+expect "a slow pipe: status" 0 $?
+
+[ "$wrong" -eq 0 ] && echo "the edges are as they should be"
+exit $wrong
