@@ -11,7 +11,7 @@ use Rattle.mb_carrier.specs.Word.{word_of}
 use Rattle.mb_carrier.specs.declared.spec.Spec.{Spec}
 use Rattle.mb_carrier.proofs.WordLemmas.{word_of-same}
 use Rattle.mb_top.specs.Command.{Command, Converting, Listing, Means, words_of}
-use Rattle.mb_top.specs.Answer.{Answered, RanWords, Ran, Ends, EndsAs, HasFault, Says, changed, taken_off, added_to, code_of, text_of, is_usage, wants_memory}
+use Rattle.mb_top.specs.Answer.{Answered, RanWords, Ran, Ends, EndsAs, HasFault, Says, faults_told, changed, taken_off, added_to, code_of, text_of, is_usage, wants_memory}
 use Rattle.mb_top.specs.declared.status.Status.{Status}
 use Rattle.mb_top.specs.declared.status.Status.TheVariants.{Done, Noted, Usage, ReadFault, WriteFault, TooLong, NoMemory}
 
@@ -103,10 +103,11 @@ output-changed input output words before = drop_at (before.written 1) output (le
 words-changed : (input output words : List ℕ) (before : Contents) → added_to 2 before (changed input output words before) ≡ words
 words-changed input output words before = drop_at (before.written 2) words (length (before.written 2)) refl
 
-pub answered : (words : List (List ℕ)) (limit : ℕ) (before mid after : Contents) (rose : Type 0) (status : Status) (answer : ℕ) (text : List ℕ) →
-    answer ≡ code_of status → RanWords words limit before mid status → after ≡ after_write 2 text mid → Says rose text (text_of status) →
-    Answered words limit before after rose answer
-answered words limit before mid after rose status answer text number r wrote says =
+pub answered : (words : List (List ℕ)) (limit : ℕ) (before mid after : Contents) (faults faults_now : ℕ) (status : Status) (answer : ℕ) (text : List ℕ) →
+    answer ≡ code_of status → RanWords words limit before mid status → after ≡ after_write 2 text mid →
+    Says (Rose (faults + faults_told status) faults_now) text (text_of status) →
+    Answered words limit before after faults faults_now answer
+answered words limit before mid after faults faults_now status answer text number r wrote says =
     let all : after ≡ changed r.input r.output text before = wrote ∙ ap (after_write 2 text) r.contents in
     let input : taken_off 0 before after ≡ r.input = ap (taken_off 0 before) all ∙ taken-changed r.input r.output text before r.front in
     let output : added_to 1 before after ≡ r.output = ap (added_to 1 before) all ∙ output-changed r.input r.output text before in
@@ -124,14 +125,14 @@ answered words limit before mid after rose status answer text number r wrote say
       ends =
           subst (λ (xs : List ℕ). Ends words limit (before.left 0) xs (added_to 1 before after) status) (sym input)
           (subst (λ (xs : List ℕ). Ends words limit (before.left 0) r.input xs status) (sym output) r.ends);
-      text = subst (λ (xs : List ℕ). Says rose xs (text_of status)) (sym spoken) says;
+      text = subst (λ (xs : List ℕ). Says (Rose (faults + faults_told status) faults_now) xs (text_of status)) (sym spoken) says;
     }
 
 -- what the answer says of a conversion
-pub done : (words : List (List ℕ)) (limit : ℕ) (before after : Contents) (rose : Type 0) (answer : ℕ) (first : Spec) (between : List Spec) (last : Spec) →
-    answer ≡ 0 → Means words (Converting first between last) → Answered words limit before after rose answer →
+pub done : (words : List (List ℕ)) (limit : ℕ) (before after : Contents) (faults faults_now answer : ℕ) (first : Spec) (between : List Spec) (last : Spec) →
+    answer ≡ 0 → Means words (Converting first between last) → Answered words limit before after faults faults_now answer →
     EndsAs (Converting first between last) limit (before.left 0) (taken_off 0 before after) (added_to 1 before after) Done
-done words limit before after rose answer first between last zero m a = by_status a.status (sym a.number ∙ zero) a.ends
+done words limit before after faults faults_now answer first between last zero m a = by_status a.status (sym a.number ∙ zero) a.ends
   where
     by_status : (status : Status) → code_of status ≡ 0 → Ends words limit (before.left 0) (taken_off 0 before after) (added_to 1 before after) status →
         EndsAs (Converting first between last) limit (before.left 0) (taken_off 0 before after) (added_to 1 before after) Done
@@ -157,12 +158,20 @@ completes words limit before after rose reads writes TooLong first between last 
     absurd (omega (arith, short, (ran.ends (Converting first between last) m).0, ap length (ran.front).1, length-append ran.input (ran.front).0))
 completes words limit before after rose reads writes NoMemory first between last m u w r f nr nw short ran = absurd (wrong w)
 
--- a count that rose later rose
-pub rose-earlier : (before mid now : ℕ) → before ≤ mid → Rose mid now → Rose before now
-rose-earlier before mid now le r = omega (arith, r)
+-- a fault of the text is one more than the status tells
+rose-more : (reads reads_mid before mid now : ℕ) (status : Status) → before ≤ mid → HasFault reads reads_mid before mid status → Rose mid now →
+    Rose (before + faults_told status) now
+rose-more reads reads_mid before mid now WriteFault le f r = omega (arith, f, r)
+rose-more reads reads_mid before mid now Done le f r = omega (arith, r)
+rose-more reads reads_mid before mid now Usage le f r = omega (arith, r)
+rose-more reads reads_mid before mid now ReadFault le f r = omega (arith, r)
+rose-more reads reads_mid before mid now TooLong le f r = omega (arith, r)
+rose-more reads reads_mid before mid now NoMemory le f r = omega (arith, r)
 
-pub says-earlier : (before mid now : ℕ) (words text : List ℕ) → before ≤ mid → Says (Rose mid now) words text → Says (Rose before now) words text
-says-earlier before mid now words text le s = record { front = s.front; all = elim s.all [ inl e ↦ inl e | inr r ↦ inr (rose-earlier before mid now le r) ] }
+pub says-earlier : (reads reads_mid before mid now : ℕ) (status : Status) (words text : List ℕ) → before ≤ mid → HasFault reads reads_mid before mid status →
+    Says (Rose mid now) words text → Says (Rose (before + faults_told status) now) words text
+says-earlier reads reads_mid before mid now status words text le f s =
+    record { front = s.front; all = elim s.all [ inl e ↦ inl e | inr r ↦ inr (rose-more reads reads_mid before mid now status le f r) ] }
 
 pub says-text : (rose : Type 0) (words text other : List ℕ) → text ≡ other → Says rose words text → Says rose words other
 says-text rose words text other same s = subst (λ (t : List ℕ). Says rose words t) same s

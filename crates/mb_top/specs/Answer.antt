@@ -4,7 +4,7 @@
 --   taken_off, added_to    what a call took off a handle, and what it wrote to one
 --   Ends ..                what an answer says of the bytes left at first, those read and those written
 --   Answered ..            all that a call did to the desk
-use Rattle.std.specs.Prelude.{◌≡◌, ℕ, ◌-◌, ◌<◌, ◌≤◌, Bool, true, false, ◌==◌, List, [], ◌∷◌, ◌++◌, length, take, drop, ◌⊎◌, codes}
+use Rattle.std.specs.Prelude.{◌≡◌, ℕ, ◌+◌, ◌-◌, ◌<◌, ◌≤◌, Bool, true, false, ◌==◌, List, [], ◌∷◌, ◌++◌, length, take, drop, ◌⊎◌, codes}
 use Rattle.std.specs.List.{list_any}
 use Rattle.mb_outside.specs.Cause.{Rose}
 use Rattle.mb_outside.specs.Contents.{Contents, after_read, after_write}
@@ -70,6 +70,11 @@ abbrev pub Ends : (words : List (List ℕ)) (limit : ℕ) (left input output : L
 Ends words limit left input output Usage = (input ≡ []) × (output ≡ [])
 Ends words limit left input output status = (c : Command) → Means words c → EndsAs c limit left input output status
 
+-- how many faults of writing the answer itself tells of
+abbrev pub faults_told : Status → ℕ
+faults_told WriteFault = 1
+faults_told _ = 0
+
 -- a front of a text was said, and all of it unless writing failed
 pub record Says (rose : Type 0) (said text : List ℕ) : Type 0 where
   pub front : IsFront said text
@@ -79,14 +84,15 @@ pub record Says (rose : Type 0) (said text : List ℕ) : Type 0 where
 abbrev pub changed : (input output said : List ℕ) → Contents → Contents
 changed input output said c = after_write 2 said (after_write 1 output (after_read 0 (length input) c))
 
-pub record Answered (words : List (List ℕ)) (limit : ℕ) (before after : Contents) (rose : Type 0) (answer : ℕ) : Type 0 where
+-- the text is whole unless the count of write faults rose once more than the answer tells
+pub record Answered (words : List (List ℕ)) (limit : ℕ) (before after : Contents) (faults faults_now : ℕ) (answer : ℕ) : Type 0 where
   pub contents : after ≡ changed (taken_off 0 before after) (added_to 1 before after) (added_to 2 before after) before
   pub front : IsFront (taken_off 0 before after) (before.left 0)
   pub within : length (taken_off 0 before after) ≤ limit
   pub status : Status
   pub number : answer ≡ code_of status
   pub ends : Ends words limit (before.left 0) (taken_off 0 before after) (added_to 1 before after) status
-  pub text : Says rose (added_to 2 before after) (text_of status)
+  pub text : Says (Rose (faults + faults_told status) faults_now) (added_to 2 before after) (text_of status)
 
 -- inside: a command read these bytes and wrote those, and changed nothing else
 pub record Ran (c : Command) (limit : ℕ) (before after : Contents) (status : Status) : Type 0 where

@@ -26,7 +26,7 @@ pub const LIMIT: u64 = 1 << 40;
 /// failed, 4 writing failed, 8 the input goes on at the limit.
 pub fn bridge<D: Desk>(alloc: Global, words: &Args, desk: &mut D) -> u8
     // All that it does to a desk that tells its contents: nothing but what the answer says.
-    ensures contents { IsTrue D.tells → Answered words.now (2 ^ 40) (D.contents desk.old) (D.contents desk.new) (Rose (D.write_faults desk.old) (D.write_faults desk.new)) result }
+    ensures contents { IsTrue D.tells → Answered words.now (2 ^ 40) (D.contents desk.old) (D.contents desk.new) (D.write_faults desk.old) (D.write_faults desk.new) result }
 
     // What was written denotes on its port exactly what the bytes read denote on theirs.
     ensures headline { (first : Spec) (between : List Spec) (last : Spec) → IsTrue D.tells → Means words.now (Converting first between last) → result ≡ 0 →
@@ -62,7 +62,7 @@ pub fn bridge_within<D: Desk>(alloc: Global, words: &Args, desk: &mut D, limit: 
     requires least { 0 < limit }
 
     // All that it does to a desk that tells its contents: nothing but what the answer says.
-    ensures contents { IsTrue D.tells → Answered words.now limit (D.contents desk.old) (D.contents desk.new) (Rose (D.write_faults desk.old) (D.write_faults desk.new)) result }
+    ensures contents { IsTrue D.tells → Answered words.now limit (D.contents desk.old) (D.contents desk.new) (D.write_faults desk.old) (D.write_faults desk.new) result }
 
     // What was written denotes on its port exactly what the bytes read denote on theirs.
     ensures headline { (first : Spec) (between : List Spec) (last : Spec) → IsTrue D.tells → Means words.now (Converting first between last) → result ≡ 0 →

@@ -43,6 +43,32 @@ fn after_a_fault_stands_what_was_known_before(rt: HostRuntime) -> Result<(), Fai
     Ok(())
 }
 
+/// Two clocks, a byte a read: which call of the desk fails, and what must stand on standard output. The calls are read, write,
+/// read, write, and the read that finds the end.
+const BYTE_BY_BYTE: &[(u64, u8, &[u8])] = &[
+    (1, 3, &[]),
+    (2, 4, &[]),
+    (3, 3, &[0x0f, 0xf8, 0, 0]),
+    (4, 4, &[0x0f, 0xf8, 0, 0]),
+    (5, 3, &[0x0f, 0xf8, 0, 0, 0x0f, 0xf8, 0, 0]),
+];
+
+#[test]
+fn what_a_read_gives_is_written_before_the_next(rt: HostRuntime) -> Result<(), Fail> {
+    for (call, status, output) in BYTE_BY_BYTE {
+        let args = words(rt.alloc(), TO_CABLE_0)?;
+        let mut desk = desk(rt.alloc(), &[0xf8, 0xf8], 1, ROOM)?;
+        desk.plan_faults(&[*call])?;
+        assert_eq!(rt;
+            bridge(rt.alloc(), &args, &mut desk),
+            *status,
+            "call {call}"
+        );
+        assert!(rt; desk.is_written(1, output), "call {call}");
+    }
+    Ok(())
+}
+
 #[test]
 fn the_limit_is_looked_at_before_the_next_read(rt: HostRuntime) -> Result<(), Fail> {
     let args = words(rt.alloc(), TO_CABLE_0)?;

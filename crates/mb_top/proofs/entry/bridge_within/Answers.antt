@@ -9,27 +9,27 @@ use Rattle.mb_top.proofs.entry.bridge_within.Goals as goal
 pub returns-clause-contents : goal.returns-clause-contents
 returns-clause-contents g c = λ tells.
     let words = c.say.ensures.said tells in
-    answered _ _ _ _ _ _ c.run-status.result _ words.0 c.code.ensures (c.run-status.ensures.ran tells) words.1
-    (says-earlier _ _ _ words.0 _ c.run-status.ensures.writes (says-text _ words.0 _ _ c.text.ensures words.2))
+    answered _ _ _ _ _ _ _ c.run-status.result _ words.0 c.code.ensures (c.run-status.ensures.ran tells) words.1
+    (says-earlier _ _ _ _ _ c.run-status.result words.0 _ c.run-status.ensures.writes c.run-status.ensures.fault (says-text _ words.0 _ _ c.text.ensures words.2))
 
 pub returns-clause-headline : goal.returns-clause-headline
 returns-clause-headline g c = λ first between last tells m zero.
-    let d = done _ _ _ _ _ _ first between last zero m (returns-clause-contents g c tells) in
+    let d = done _ _ _ _ _ _ _ first between last zero m (returns-clause-contents g c tells) in
     ap (den last) (d.0).output_is ∙ through-means first between last _
 
 pub returns-clause-exact : goal.returns-clause-exact
 returns-clause-exact g c = λ first between last tells m zero.
-    let d = done _ _ _ _ _ _ first between last zero m (returns-clause-contents g c tells) in
+    let d = done _ _ _ _ _ _ _ first between last zero m (returns-clause-contents g c tells) in
     (d.0).output_is ∙ ap (through first between last) (sym (d.0).all)
 
 pub returns-clause-clean : goal.returns-clause-clean
 returns-clause-clean g c = λ first between last tells m zero.
-    let d = done _ _ _ _ _ _ first between last zero m (returns-clause-contents g c tells) in
+    let d = done _ _ _ _ _ _ _ first between last zero m (returns-clause-contents g c tells) in
     ap (notes_of last) (d.0).output_is ∙ through-clean first between last _
 
 pub returns-clause-whole : goal.returns-clause-whole
 returns-clause-whole g c = λ first between last tells m zero.
-    let d = done _ _ _ _ _ _ first between last zero m (returns-clause-contents g c tells) in
+    let d = done _ _ _ _ _ _ _ first between last zero m (returns-clause-contents g c tells) in
     ap (whole last) (d.0).output_is ∙ through-whole first between last _
 
 pub returns-clause-complete : goal.returns-clause-complete
