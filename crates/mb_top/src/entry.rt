@@ -22,7 +22,7 @@ use std::alloc::Global;
 pub const LIMIT: u64 = 1 << 40;
 
 /// Does all that the program does, and answers its exit status: 0 all was done, 2 the words are no command, 3 reading
-/// failed, 4 writing failed, 8 the input goes on at the limit.
+/// failed, 4 writing failed, 8 as many bytes as the limit were read.
 pub fn bridge<D: Desk>(alloc: Global, words: &Args, desk: &mut D) -> u8
     // All that it does to a desk that tells its contents: nothing but what the answer says.
     ensures contents { IsTrue D.tells → Answered words.now (2 ^ 40) (D.contents desk.old) (D.contents desk.new) (Rose (D.write_faults desk.old) (D.write_faults desk.new)) result }
