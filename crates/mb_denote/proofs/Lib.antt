@@ -1,0 +1,4 @@
+pub mod CollectLemmas
+pub mod CountLemmas
+pub mod Equality
+mod Examples

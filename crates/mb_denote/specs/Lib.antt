@@ -1,0 +1,4 @@
+pub mod Collected
+pub mod Collecting
+pub mod Counted
+pub mod Denoted
