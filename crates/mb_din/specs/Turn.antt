@@ -1,5 +1,5 @@
 -- What one call of a DIN reader's `next` does, as a function of what the reader keeps: the private functions are proved
--- equal to it. No public contract cites it: they say what is told by the definitions of a byte stream's reading.
+-- equal to it. Of it public contracts cite `answer` alone: what is told they say by the definitions of a byte stream's reading.
 --
 --   answer result       what an answer tells, a run as its bytes
 --   data_step, ..       what a byte makes of what the line so far has begun, once it is taken

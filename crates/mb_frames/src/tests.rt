@@ -25,22 +25,18 @@ fn read(frames: &mut Frames, mut piece: &[u8], told: &mut Vec<Told>) -> Result<(
     Ok(())
 }
 
-#[test]
-fn parts_of_lists_cut_at_every_place(rt: HostRuntime) -> Result<(), Fail> {
-    let nothing: (&[u8], &[Told], bool) = (&[], &[], false);
-    let half_a_length: (&[u8], &[Told], bool) = (&[0], &[], true);
-    let empty: (&[u8], &[Told], bool) = (&[0, 0], &[Told::Begin(0), Told::End], false);
-    let two_bytes: (&[u8], &[Told], bool) = (
+/// Bytes, their parts, and whether they stop inside a frame.
+const PARTS: &[(&[u8], &[Told], bool)] = &[
+    (&[], &[], false),
+    (&[0], &[], true),
+    (&[0, 0], &[Told::Begin(0), Told::End], false),
+    (
         &[0, 2, 7, 8],
         &[Told::Begin(2), Told::Byte(7), Told::Byte(8), Told::End],
         false,
-    );
-    let high_byte_first: (&[u8], &[Told], bool) = (
-        &[1, 0, 9],
-        &[Told::Begin(256), Told::Byte(9)],
-        true,
-    );
-    let three_frames: (&[u8], &[Told], bool) = (
+    ),
+    (&[1, 0, 9], &[Told::Begin(256), Told::Byte(9)], true),
+    (
         &[0, 1, 5, 0, 0, 0, 1],
         &[
             Told::Begin(1),
@@ -51,23 +47,19 @@ fn parts_of_lists_cut_at_every_place(rt: HostRuntime) -> Result<(), Fail> {
             Told::Begin(1),
         ],
         true,
-    );
-    let table = [
-        nothing,
-        half_a_length,
-        empty,
-        two_bytes,
-        high_byte_first,
-        three_frames,
-    ];
-    for (bytes, expected, partial) in table {
+    ),
+];
+
+#[test]
+fn parts_of_lists_cut_at_every_place(rt: HostRuntime) -> Result<(), Fail> {
+    for (bytes, expected, partial) in PARTS {
         for cut in 0..=bytes.len() {
             let mut frames = Frames::new();
             let mut told = Vec::new(rt.alloc());
             read(&mut frames, &bytes[..cut], &mut told)?;
             read(&mut frames, &bytes[cut..], &mut told)?;
-            assert_eq!(rt; told.as_slice(), expected, "{bytes:?} at {cut}");
-            assert_eq!(rt; frames.partial(), partial, "{bytes:?} at {cut}");
+            assert_eq!(rt; told.as_slice(), *expected, "{bytes:?} at {cut}");
+            assert_eq!(rt; frames.partial(), *partial, "{bytes:?} at {cut}");
         }
     }
     Ok(())

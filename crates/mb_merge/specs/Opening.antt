@@ -1,4 +1,4 @@
--- Opening a router over routes, pairs of a source and an out.
+-- Opening a router over routes, pairs of a source and an out: the project's own.
 --
 --   first_fault sources outs routes     Count where a number isn't 1 to 16; else by the first faulty route Index where one of
 --                                       its numbers isn't below its count, or Twice where it stood before

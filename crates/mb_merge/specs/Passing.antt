@@ -1,5 +1,5 @@
--- Which mark passes next. A real-time mark always may. The data and the end of a SysEx may where its start has passed. A short
--- message or a start may where no other source owns an out of its source. A mark that isn't real-time also waits for all
+-- Which mark passes next: the project's own. A real-time mark always may. The data and the end of a SysEx may where its start
+-- has passed. A short message or a start may where no other source owns an out of its source. A mark that isn't real-time also waits for all
 -- marks of its own source that are held before it. A mark passes to all outs of its source at once.
 --
 --   may_pass ls s mark        whether a mark of a source may pass, whatever else of it is held

@@ -47,6 +47,7 @@ impl Model for Source {
 }
 
 impl Source {
+    /// A source that goes to these outs, with nothing taken.
     pub fn new(alloc: Global, outs: [bool; 16]) -> Result<Source, AllocError>
         ensures { IfOk result (λ source. source ≡ closed_link outs) }
     {
@@ -60,6 +61,7 @@ impl Source {
         })
     }
 
+    /// Whether it has an open SysEx: its start has passed.
     #[inline(always)]
     pub fn is_open(&self) -> bool
         ensures { result ≡ self.now.is_open }
@@ -67,6 +69,7 @@ impl Source {
         self.is_open
     }
 
+    /// Whether it goes to this out.
     #[inline(always)]
     pub fn goes(&self, out: u8) -> bool
         requires { out < 16 }
@@ -84,6 +87,7 @@ impl Source {
         self.is_open && self.goes(out)
     }
 
+    /// Whether the mark may come next of it, behind all that was taken.
     #[inline(always)]
     pub fn suits(&self, mark: Mark) -> bool
         ensures { result ≡ suits_sign self.now.in_sysex (sign_of mark) }

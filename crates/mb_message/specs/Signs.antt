@@ -1,4 +1,5 @@
--- Marks as definitions see them. `Short` and `Rt` carry a proof that they are valid, so a definition can't build one; it
+-- Marks as definitions see them, and how they may stand (MIDI 1.0 Detailed Specification 4.2, "System Exclusive Messages",
+-- "System Real Time Messages"). `Short` and `Rt` carry a proof that they are valid, so a definition can't build one; it
 -- speaks of signs instead, and contracts say `sign_of mark`.
 --
 --   Sign                       a mark without the proofs in it

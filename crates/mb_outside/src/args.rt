@@ -44,6 +44,7 @@ impl Args {
         }
     }
 
+    /// How many words there are.
     pub fn len(&self) -> usize
         ensures { result ≡ length self.now }
     {

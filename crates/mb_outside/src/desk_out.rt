@@ -15,6 +15,7 @@ pub struct DeskOut<'a, D: Desk> {
 }
 
 impl<'a, D: Desk> DeskOut<'a, D> {
+    /// Handle 1 is standard output, 2 standard error.
     pub fn new(desk: &'a mut D, h: u32) -> DeskOut<'a, D>
         ensures name { result.desk.ghost_name ≡ desk.entry.ghost_name }
         ensures desk { result.desk.now ≡ desk.old }

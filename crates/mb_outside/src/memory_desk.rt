@@ -1,6 +1,6 @@
 //! A desk in memory, which tells all that it holds and fails exactly where it is told to.
 
-ghost use Rattle.std.specs.Prelude.{◌≡◌, ℕ, ◌+◌, ◌<◌, ◌≤◌, ◌↔◌, Bool, true, not, ◌||◌, List, [], ◌∷◌, ◌++◌, length, take, vec_len, vec_capacity, IsTrue, is_ok, MatchOption, IfOk, OnOk, OnErr};
+ghost use Rattle.std.specs.Prelude.{◌≡◌, ℕ, ◌+◌, ◌-◌, ◌^◌, ◌<◌, ◌≤◌, ◌↔◌, Bool, true, not, ◌||◌, List, [], ◌∷◌, ◌++◌, length, take, vec_len, vec_capacity, IsTrue, is_ok, MatchOption, IfOk, OnOk, OnErr};
 ghost use Rattle.mb_outside.specs.Cause.{HasCause};
 ghost use Rattle.mb_outside.specs.Contents.{Contents, is_readable, is_writable, Reads, Writes, TakesSome};
 ghost use Rattle.mb_outside.specs.MemoryDesk.{MemoryState, contents_of, is_planned, is_full, count_of_read, count_of_write, one_more, bytes_to, logged};
@@ -51,6 +51,7 @@ impl MemoryDesk {
     pub fn new(alloc: Global, room: usize) -> Result<MemoryDesk, Memory>
         ensures contents { IfOk result (λ desk. (desk.input ≡ []) × (desk.at ≡ 0) × (desk.log ≡ [])) }
         ensures room { IfOk result (λ desk. desk.room ≡ room) }
+        ensures piece { IfOk result (λ desk. desk.piece ≡ 2 ^ 64 - 1) }
         ensures calls { IfOk result (λ desk. (desk.planned ≡ []) × (desk.calls ≡ 0)) }
         ensures counts { IfOk result (λ desk. (desk.read_faults ≡ 0) × (desk.write_faults ≡ 0)) }
     {

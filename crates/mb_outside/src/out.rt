@@ -8,6 +8,7 @@ ghost use Rattle.mb_outside.specs.Taking.{TookFront};
 #[derive(Clone, Copy, Debug, PartialEq, Eq)]
 pub struct Refused;
 
+/// Where a writer's bytes go.
 pub trait Out {
     /// When it may be handed bytes.
     ghost ready: { Self → Type 0 };

@@ -1,4 +1,4 @@
--- What the top call answers, and what each answer says of the desk.
+-- What the top call answers, and what each answer says of the desk: the project's own.
 --
 --   code_of, text_of       of an answer, its number, and the text on standard error
 --   taken_off, added_to    what a call took off a handle, and what it wrote to one

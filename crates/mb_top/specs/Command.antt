@@ -1,4 +1,4 @@
--- What the words of a command line mean.
+-- What the words of a command line mean: the project's own.
 --
 --   Command            a conversion by two or more specs, or the listing of a recording
 --   words_of c         its words

@@ -21,9 +21,8 @@ use std::alloc::Global;
 /// The most bytes that are taken from one recording.
 pub const LIMIT: u64 = 1 << 40;
 
-/// Does all that the program does, and answers its exit status: 0 all was done, 1 `check` or `trace` told a note,
-/// 2 the words are no command, 3 reading
-/// failed, 4 writing failed, 8 the input goes on at the limit.
+/// Does all that the program does, and answers its exit status: 0 all was done, 1 all was done and there were notes, 2 the
+/// words are no command, 3 reading failed, 4 writing failed, 8 as many bytes as the limit were read.
 pub fn bridge<D: Desk>(alloc: Global, words: &Args, desk: &mut D) -> u8
     // All that it does to a desk that tells its contents: nothing but what the answer says.
     ensures contents { IsTrue D.tells → Answered words.now (2 ^ 40) (D.contents desk.old) (D.contents desk.new) (D.write_faults desk.old) (D.write_faults desk.new) result }

@@ -16,7 +16,7 @@ pub(crate) enum Status {
     ReadFault,
     /// Writing failed.
     WriteFault,
-    /// The input goes on at the limit.
+    /// As many bytes as the limit were read. Whether more follow isn't looked at.
     TooLong,
     /// There was no memory for what a command needs.
     NoMemory,
