@@ -7,6 +7,7 @@ use Rattle.mb_carrier.specs.Carrier.{marks_of, notes_of, den, whole, written}
 use Rattle.mb_carrier.specs.Conversion.{carried, through}
 use Rattle.mb_carrier.specs.Laws.{CarrierLaws}
 use Rattle.mb_carrier.specs.declared.spec.Spec.{Spec}
+use Rattle.mb_din.proofs.WrittenMarks.{canonical}
 use Rattle.mb_carrier.specs.declared.spec.Spec.TheVariants.{Din, Usb}
 use Rattle.mb_din.proofs.DinMarks as din
 use Rattle.mb_din.proofs.WrittenMarks as din_written
@@ -63,6 +64,12 @@ through-means first between last bytes =
 pub through-clean : (first : Spec) (between : List Spec) (last : Spec) (bytes : List ℕ) → notes_of last (through first between last bytes) ≡ []
 through-clean first between last bytes =
     (laws last).clean (carried between (marks_of first bytes))
+    (carried-suits between (marks_of first bytes) ((laws first).suits bytes)) (carried-valid between (marks_of first bytes) ((laws first).valid bytes))
+
+-- what is written as a byte line is read and written again as it is
+pub through-canonical : (first : Spec) (between : List Spec) (bytes : List ℕ) → through Din [] Din (through first between Din bytes) ≡ through first between Din bytes
+through-canonical first between bytes =
+    canonical (carried between (marks_of first bytes))
     (carried-suits between (marks_of first bytes) ((laws first).suits bytes)) (carried-valid between (marks_of first bytes) ((laws first).valid bytes))
 
 pub through-whole : (first : Spec) (between : List Spec) (last : Spec) (bytes : List ℕ) → whole last (through first between last bytes) ≡ true

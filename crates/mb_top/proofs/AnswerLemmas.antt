@@ -11,7 +11,7 @@ use Rattle.mb_carrier.specs.Word.{word_of}
 use Rattle.mb_carrier.specs.declared.spec.Spec.{Spec}
 use Rattle.mb_carrier.proofs.WordLemmas.{word_of-same}
 use Rattle.mb_top.specs.Command.{Command, Converting, Listing, Means, words_of}
-use Rattle.mb_top.specs.Answer.{Answered, RanWords, Ran, Ends, EndsAs, HasFault, Says, faults_told, changed, taken_off, added_to, code_of, text_of, is_usage, wants_memory}
+use Rattle.mb_top.specs.Answer.{Answered, WentThrough, RanWords, Ran, Ends, EndsAs, HasFault, Says, faults_told, changed, taken_off, added_to, code_of, text_of, is_usage, wants_memory}
 use Rattle.mb_top.specs.declared.status.Status.{Status}
 use Rattle.mb_top.specs.declared.status.Status.TheVariants.{Done, Noted, Usage, ReadFault, WriteFault, TooLong, NoMemory}
 
@@ -128,16 +128,46 @@ answered words limit before mid after faults faults_now status answer text numbe
       text = subst (λ (xs : List ℕ). Says (Rose (faults + faults_told status) faults_now) xs (text_of status)) (sym spoken) says;
     }
 
--- what the answer says of a conversion
-pub done : (words : List (List ℕ)) (limit : ℕ) (before after : Contents) (faults faults_now answer : ℕ) (first : Spec) (between : List Spec) (last : Spec) →
-    answer ≡ 0 → Means words (Converting first between last) → Answered words limit before after faults faults_now answer →
-    EndsAs (Converting first between last) limit (before.left 0) (taken_off 0 before after) (added_to 1 before after) Done
-done words limit before after faults faults_now answer first between last zero m a = by_status a.status (sym a.number ∙ zero) a.ends
+-- what the answer says of a command
+pub done : (words : List (List ℕ)) (limit : ℕ) (before after : Contents) (faults faults_now answer : ℕ) (c : Command) →
+    answer ≡ 0 → Means words c → Answered words limit before after faults faults_now answer →
+    EndsAs c limit (before.left 0) (taken_off 0 before after) (added_to 1 before after) Done
+done words limit before after faults faults_now answer c zero m a = by_status a.status (sym a.number ∙ zero) a.ends
   where
     by_status : (status : Status) → code_of status ≡ 0 → Ends words limit (before.left 0) (taken_off 0 before after) (added_to 1 before after) status →
-        EndsAs (Converting first between last) limit (before.left 0) (taken_off 0 before after) (added_to 1 before after) Done
-    by_status Done e ends = ends (Converting first between last) m
+        EndsAs c limit (before.left 0) (taken_off 0 before after) (added_to 1 before after) Done
+    by_status Done e ends = ends c m
     by_status Noted e ends = absurd (omega (arith, e))
+    by_status Usage e ends = absurd (omega (arith, e))
+    by_status ReadFault e ends = absurd (omega (arith, e))
+    by_status WriteFault e ends = absurd (omega (arith, e))
+    by_status TooLong e ends = absurd (omega (arith, e))
+    by_status NoMemory e ends = absurd (omega (arith, e))
+
+pub noted : (words : List (List ℕ)) (limit : ℕ) (before after : Contents) (faults faults_now answer : ℕ) (c : Command) →
+    answer ≡ 1 → Means words c → Answered words limit before after faults faults_now answer →
+    EndsAs c limit (before.left 0) (taken_off 0 before after) (added_to 1 before after) Noted
+noted words limit before after faults faults_now answer c one m a = by_status a.status (sym a.number ∙ one) a.ends
+  where
+    by_status : (status : Status) → code_of status ≡ 1 → Ends words limit (before.left 0) (taken_off 0 before after) (added_to 1 before after) status →
+        EndsAs c limit (before.left 0) (taken_off 0 before after) (added_to 1 before after) Noted
+    by_status Done e ends = absurd (omega (arith, e))
+    by_status Noted e ends = ends c m
+    by_status Usage e ends = absurd (omega (arith, e))
+    by_status ReadFault e ends = absurd (omega (arith, e))
+    by_status WriteFault e ends = absurd (omega (arith, e))
+    by_status TooLong e ends = absurd (omega (arith, e))
+    by_status NoMemory e ends = absurd (omega (arith, e))
+
+pub went_through : (words : List (List ℕ)) (limit : ℕ) (before after : Contents) (faults faults_now answer : ℕ) (c : Command) →
+    answer ≤ 1 → Means words c → Answered words limit before after faults faults_now answer →
+    WentThrough c limit (before.left 0) (taken_off 0 before after) (added_to 1 before after)
+went_through words limit before after faults faults_now answer c few m a = by_status a.status (omega (arith, a.number, few)) a.ends
+  where
+    by_status : (status : Status) → code_of status ≤ 1 → Ends words limit (before.left 0) (taken_off 0 before after) (added_to 1 before after) status →
+        WentThrough c limit (before.left 0) (taken_off 0 before after) (added_to 1 before after)
+    by_status Done e ends = (ends c m).0
+    by_status Noted e ends = (ends c m).0
     by_status Usage e ends = absurd (omega (arith, e))
     by_status ReadFault e ends = absurd (omega (arith, e))
     by_status WriteFault e ends = absurd (omega (arith, e))
@@ -163,6 +193,7 @@ rose-more : (reads reads_mid before mid now : ℕ) (status : Status) → before 
     Rose (before + faults_told status) now
 rose-more reads reads_mid before mid now WriteFault le f r = omega (arith, f, r)
 rose-more reads reads_mid before mid now Done le f r = omega (arith, r)
+rose-more reads reads_mid before mid now Noted le f r = omega (arith, r)
 rose-more reads reads_mid before mid now Usage le f r = omega (arith, r)
 rose-more reads reads_mid before mid now ReadFault le f r = omega (arith, r)
 rose-more reads reads_mid before mid now TooLong le f r = omega (arith, r)

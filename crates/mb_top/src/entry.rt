@@ -1,14 +1,16 @@
 //! The top call.
 
-ghost use Rattle.std.specs.Prelude.{◌≡◌, ℕ, ◌<◌, ◌≤◌, ◌^◌, ◌↔◌, ◌⊎◌, true, false, List, [], length, IsTrue, OnOk, OnErr};
+ghost use Rattle.std.specs.Prelude.{◌≡◌, ℕ, Bool, ◌<◌, ◌≤◌, ◌^◌, ◌↔◌, ◌⊎◌, true, false, List, [], length, IsTrue, OnOk, OnErr};
 ghost use Rattle.mb_outside.specs.Cause.{Rose, HasCause};
 ghost use Rattle.mb_outside.specs.Taking.{IsFront, Wrote};
 ghost use Rattle.mb_outside.specs.Contents.{after_write, is_writable};
 ghost use Rattle.mb_carrier.specs.Carrier.{den, whole, notes_of};
 ghost use Rattle.mb_carrier.specs.Conversion.{through};
+ghost use Rattle.mb_carrier.specs.Lines.{listed};
 ghost use Rattle.mb_carrier.specs.declared.spec.Spec.{Spec};
+ghost use Rattle.mb_carrier.specs.declared.spec.Spec.TheVariants.{Din};
 ghost use Rattle.mb_top.specs.Command as words_mean;
-ghost use Rattle.mb_top.specs.Command.{Converting, Means};
+ghost use Rattle.mb_top.specs.Command.{Converting, Listing, Means};
 ghost use Rattle.mb_top.specs.Answer.{Answered, RanWords, HasFault, Says, taken_off, added_to, is_answer, wants_memory};
 ghost use Rattle.mb_top.specs.declared.status.Status.TheVariants as status;
 
@@ -40,6 +42,16 @@ pub fn bridge<D: Desk>(alloc: Global, words: &Args, desk: &mut D) -> u8
         notes_of last (added_to 1 (D.contents desk.old) (D.contents desk.new)) ≡ [] }
     ensures whole { (first : Spec) (between : List Spec) (last : Spec) → IsTrue D.tells → Means words.now (Converting first between last) → result ≡ 0 →
         whole last (added_to 1 (D.contents desk.old) (D.contents desk.new)) ≡ true }
+
+    // What is written as a byte line is read and written again as it is.
+    ensures canonical { (first : Spec) (between : List Spec) → IsTrue D.tells → Means words.now (Converting first between Din) → result ≡ 0 →
+        through Din [] Din (added_to 1 (D.contents desk.old) (D.contents desk.new)) ≡ added_to 1 (D.contents desk.old) (D.contents desk.new) }
+
+    // `check` and `trace` print the lines of all the input, and answer 1 where it has a note.
+    ensures listed { (traced : Bool) (s : Spec) → IsTrue D.tells → Means words.now (Listing traced s) → result ≤ 1 →
+        added_to 1 (D.contents desk.old) (D.contents desk.new) ≡ listed traced s ((D.contents desk.old).left 0) }
+    ensures no_note { (traced : Bool) (s : Spec) → IsTrue D.tells → Means words.now (Listing traced s) → result ≡ 0 → notes_of s ((D.contents desk.old).left 0) ≡ [] }
+    ensures a_note { (traced : Bool) (s : Spec) → IsTrue D.tells → Means words.now (Listing traced s) → result ≡ 1 → notes_of s ((D.contents desk.old).left 0) ≡ [] → ⊥ }
 
     // Each answer has its cause, for every desk.
     ensures answers { is_answer result ≡ true }
@@ -76,6 +88,16 @@ pub fn bridge_within<D: Desk>(alloc: Global, words: &Args, desk: &mut D, limit: 
         notes_of last (added_to 1 (D.contents desk.old) (D.contents desk.new)) ≡ [] }
     ensures whole { (first : Spec) (between : List Spec) (last : Spec) → IsTrue D.tells → Means words.now (Converting first between last) → result ≡ 0 →
         whole last (added_to 1 (D.contents desk.old) (D.contents desk.new)) ≡ true }
+
+    // What is written as a byte line is read and written again as it is.
+    ensures canonical { (first : Spec) (between : List Spec) → IsTrue D.tells → Means words.now (Converting first between Din) → result ≡ 0 →
+        through Din [] Din (added_to 1 (D.contents desk.old) (D.contents desk.new)) ≡ added_to 1 (D.contents desk.old) (D.contents desk.new) }
+
+    // `check` and `trace` print the lines of all the input, and answer 1 where it has a note.
+    ensures listed { (traced : Bool) (s : Spec) → IsTrue D.tells → Means words.now (Listing traced s) → result ≤ 1 →
+        added_to 1 (D.contents desk.old) (D.contents desk.new) ≡ listed traced s ((D.contents desk.old).left 0) }
+    ensures no_note { (traced : Bool) (s : Spec) → IsTrue D.tells → Means words.now (Listing traced s) → result ≡ 0 → notes_of s ((D.contents desk.old).left 0) ≡ [] }
+    ensures a_note { (traced : Bool) (s : Spec) → IsTrue D.tells → Means words.now (Listing traced s) → result ≡ 1 → notes_of s ((D.contents desk.old).left 0) ≡ [] → ⊥ }
 
     // Each answer has its cause, for every desk.
     ensures answers { is_answer result ≡ true }

@@ -1,9 +1,11 @@
-use Rattle.std.proofs.Common.{◌≡◌, ◌∙◌, ℕ, List, sym, ap, subst}
+use Rattle.std.proofs.Common.{◌≡◌, ◌∙◌, ℕ, List, [], sym, ap, subst}
 use Rattle.mb_carrier.specs.Carrier.{den, notes_of, whole}
 use Rattle.mb_carrier.specs.Conversion.{through}
-use Rattle.mb_carrier.proofs.ChainLemmas.{through-means, through-clean, through-whole}
-use Rattle.mb_top.specs.Command.{Converting}
-use Rattle.mb_top.proofs.AnswerLemmas.{answered, done, completes, says-earlier, says-text, not_usage, read_fault, write_fault}
+use Rattle.mb_carrier.specs.Lines.{listed}
+use Rattle.mb_carrier.specs.declared.spec.Spec.TheVariants.{Din}
+use Rattle.mb_carrier.proofs.ChainLemmas.{through-canonical, through-means, through-clean, through-whole}
+use Rattle.mb_top.specs.Command.{Converting, Listing}
+use Rattle.mb_top.proofs.AnswerLemmas.{answered, done, noted, went_through, completes, says-earlier, says-text, not_usage, read_fault, write_fault}
 use Rattle.mb_top.proofs.entry.bridge_within.Goals as goal
 
 pub returns-clause-contents : goal.returns-clause-contents
@@ -14,23 +16,43 @@ returns-clause-contents g c = λ tells.
 
 pub returns-clause-headline : goal.returns-clause-headline
 returns-clause-headline g c = λ first between last tells m zero.
-    let d = done _ _ _ _ _ _ _ first between last zero m (returns-clause-contents g c tells) in
+    let d = done _ _ _ _ _ _ _ (Converting first between last) zero m (returns-clause-contents g c tells) in
     ap (den last) (d.0).output_is ∙ through-means first between last _
 
 pub returns-clause-exact : goal.returns-clause-exact
 returns-clause-exact g c = λ first between last tells m zero.
-    let d = done _ _ _ _ _ _ _ first between last zero m (returns-clause-contents g c tells) in
+    let d = done _ _ _ _ _ _ _ (Converting first between last) zero m (returns-clause-contents g c tells) in
     (d.0).output_is ∙ ap (through first between last) (sym (d.0).all)
 
 pub returns-clause-clean : goal.returns-clause-clean
 returns-clause-clean g c = λ first between last tells m zero.
-    let d = done _ _ _ _ _ _ _ first between last zero m (returns-clause-contents g c tells) in
+    let d = done _ _ _ _ _ _ _ (Converting first between last) zero m (returns-clause-contents g c tells) in
     ap (notes_of last) (d.0).output_is ∙ through-clean first between last _
 
 pub returns-clause-whole : goal.returns-clause-whole
 returns-clause-whole g c = λ first between last tells m zero.
-    let d = done _ _ _ _ _ _ _ first between last zero m (returns-clause-contents g c tells) in
+    let d = done _ _ _ _ _ _ _ (Converting first between last) zero m (returns-clause-contents g c tells) in
     ap (whole last) (d.0).output_is ∙ through-whole first between last _
+
+pub returns-clause-canonical : goal.returns-clause-canonical
+returns-clause-canonical g c = λ first between tells m zero.
+    let d = done _ _ _ _ _ _ _ (Converting first between Din) zero m (returns-clause-contents g c tells) in
+    ap (through Din [] Din) (d.0).output_is ∙ (through-canonical first between _ ∙ sym (d.0).output_is)
+
+pub returns-clause-listed : goal.returns-clause-listed
+returns-clause-listed g c = λ traced s tells m few.
+    let t = went_through _ _ _ _ _ _ _ (Listing traced s) few m (returns-clause-contents g c tells) in
+    t.output_is ∙ ap (listed traced s) (sym t.all)
+
+pub returns-clause-no_note : goal.returns-clause-no_note
+returns-clause-no_note g c = λ traced s tells m zero.
+    let d = done _ _ _ _ _ _ _ (Listing traced s) zero m (returns-clause-contents g c tells) in
+    ap (notes_of s) (d.0).all ∙ d.1
+
+pub returns-clause-a_note : goal.returns-clause-a_note
+returns-clause-a_note g c = λ traced s tells m one none.
+    let d = noted _ _ _ _ _ _ _ (Listing traced s) one m (returns-clause-contents g c tells) in
+    d.1 (sym (ap (notes_of s) (d.0).all) ∙ none)
 
 pub returns-clause-complete : goal.returns-clause-complete
 returns-clause-complete g c = λ first between last tells m no_reads no_writes short is_whole.
