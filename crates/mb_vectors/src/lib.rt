@@ -6,4 +6,6 @@ mod conversion;
 #[cfg(test)]
 mod faults;
 #[cfg(test)]
+mod listing;
+#[cfg(test)]
 mod row;
