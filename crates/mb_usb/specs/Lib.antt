@@ -1,6 +1,9 @@
+pub mod Hands
 pub mod Held
 pub mod Packets
 pub mod Reading
 pub mod Running
+pub mod State
+pub mod Under
 pub mod Writer
 pub mod Written

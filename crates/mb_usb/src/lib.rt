@@ -4,10 +4,14 @@
 //! real-time message doesn't wait for them. The writer never grows and refuses nothing.
 #![tactic(auto)]
 
+mod carry;
 pub mod laws;
 mod packet;
+mod reader;
+mod under;
 mod writer;
 
+pub use reader::UsbReader;
 pub use writer::{FINISH_ROOM, PUT_ROOM, UsbWriter};
 
 #[cfg(test)]
