@@ -1,1 +1,4 @@
+pub mod CarryLaw
+pub mod MachineLaw
 pub mod PortsLaw
+pub mod ReaderLaw

@@ -1,6 +1,7 @@
 pub mod CarrierLaws
 mod Examples
 pub mod GoodCuts
+pub mod HandsLemmas
 pub mod HeldBytes
 pub mod HeldClean
 pub mod Loops
@@ -8,6 +9,7 @@ pub mod PacketFacts
 mod PacketPlaces
 pub mod PayloadMarks
 mod Places
+pub mod ReadLemmas
 mod RecordingExamples
 pub mod RunningLemmas
 pub mod UsbLaw

@@ -1,7 +1,10 @@
 -- What is done with bytes of the packet under way that its cable carries: they are handed to the cable's reader, which takes a front
 -- of them.
 use Rattle.std.specs.Prelude.{◌≡◌, ℕ, ◌+◌, List, ◌++◌, length, take, drop}
+use Rattle.mb_stream.specs.Payload.{Entry}
 use Rattle.mb_stream.specs.Told.{Told}
+use Rattle.mb_stream.specs.Reading.{so_far}
+use Rattle.mb_din.specs.Reader.{Stands}
 use Rattle.mb_din.specs.State.{State}
 use Rattle.mb_ports.specs.Reader.{NextSays}
 use Rattle.mb_usb.specs.declared.under.Packet.{Packet}
@@ -23,4 +26,5 @@ pub record Hands (was now : Packet) (reader reader_now : State) (input left : Li
   pub left_is : left ≡ kept ++ drop (left_of was.under) input
   pub packet : now ≡ packet_behind was taken
   pub offset : reader_now.offset ≡ was.offset + length taken
+  pub stays : (es : List Entry) → Stands reader es (so_far es) → Stands (placed was reader) es (so_far es)
   pub says : NextSays (placed was reader) reader_now (piece_of was input) kept answer

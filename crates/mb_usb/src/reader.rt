@@ -1,9 +1,10 @@
 //! The reader of all cables.
 
-ghost use Rattle.std.specs.Prelude.{◌≡◌, ◌+◌, ◌*◌, ◌/◌, ◌<◌, ◌≤◌, ◌^◌, true, [], ◌∷◌, ℕ, List, length, take, drop, OnSome, IfSome, IfNone};
+ghost use Rattle.std.specs.Prelude.{◌≡◌, ◌≢◌, ◌+◌, ◌*◌, ◌/◌, ◌<◌, ◌^◌, [], ℕ, length, drop, OnSome, IfNone};
 ghost use Rattle.mb_din.specs.Turn.{answer};
 ghost use Rattle.mb_din.specs.State.{fresh};
-ghost use Rattle.mb_usb.specs.Under.{left_of, head_of, is_rested};
+ghost use Rattle.mb_usb.specs.Under.{left_of, head_of};
+ghost use Rattle.mb_usb.specs.Hands.{Hands};
 ghost use Rattle.mb_usb.specs.State.{owed, owed_of, AreBehind, reader_at};
 
 use crate::carry::carry;
@@ -35,9 +36,11 @@ impl UsbReader {
     pub fn new() -> UsbReader {
         UsbReader {
             packet: Packet::new(),
-            dins: array::from_fn(|_index| -> DinReader
-                ensures { result ≡ fresh }
-            { DinReader::new() }),
+            dins: array::from_fn(
+                |_index| -> DinReader
+                    ensures { result ≡ fresh }
+                { DinReader::new() },
+            ),
         }
     }
 
@@ -75,7 +78,11 @@ impl UsbReader {
 
 /// The next mark or note.
 #[inline(always)]
-fn read<'a>(packet: &mut Packet, dins: &mut [DinReader; 16], input: &mut &'a [u8]) -> Option<PortSeen<'a>>
+fn read<'a>(
+    packet: &mut Packet,
+    dins: &mut [DinReader; 16],
+    input: &mut &'a [u8],
+) -> Option<PortSeen<'a>>
     requires early { packet.old.offset + length input.old.now < 2 ^ 63 }
     requires behind { AreBehind packet.old dins.old }
     ensures behind { AreBehind packet.new dins.new }
@@ -95,9 +102,35 @@ fn read<'a>(packet: &mut Packet, dins: &mut [DinReader; 16], input: &mut &'a [u8
             *input = rest;
         } else {
             let port = cable(packet.under);
-            if let Some(seen) = carry(packet, &mut dins[port as usize], input) {
+            if let Some(seen) = carry_at(packet, dins, port, input) {
                 return Some(PortSeen::Port(port, seen));
             }
         }
     }
+}
+
+/// Hands the bytes that the packet under way carries, and that stand in the input, to the reader of its cable, which takes
+/// a front of them.
+#[inline(always)]
+fn carry_at<'a>(
+    packet: &mut Packet,
+    dins: &mut [DinReader; 16],
+    port: u8,
+    input: &mut &'a [u8],
+) -> Option<Seen<'a>>
+    requires early { packet.old.offset + length input.old.now < 2 ^ 63 }
+    requires behind { AreBehind packet.old dins.old }
+    requires cable { port ≡ head_of packet.old.under / 16 }
+    requires below { port < 16 }
+    requires rested { packet.old.due ≡ None }
+    requires carries { left_of packet.old.under ≢ 0 }
+    ensures hands { Hands packet.old packet.new (reader_at dins.old port) (reader_at dins.new port) input.old.now input.new.now (answer result) }
+    ensures others { (c : ℕ) → c ≢ port → reader_at dins.new c ≡ reader_at dins.old c }
+    ensures behind { AreBehind packet.new dins.new }
+    ensures some { OnSome result (answer result ≡ [] → ⊥) }
+    ensures none { IfNone result (input.new.now ≡ drop (left_of packet.old.under) input.old.now) }
+    ensures end { packet.new.offset + length input.new.now ≡ packet.old.offset + length input.old.now }
+    ensures progress { OnSome result (2 * length input.new.now + owed_of packet.new (reader_at dins.new (head_of packet.new.under / 16)) < 2 * length input.old.now + owed_of packet.old (reader_at dins.old (head_of packet.old.under / 16))) }
+{
+    carry(packet, &mut dins[port as usize], input)
 }

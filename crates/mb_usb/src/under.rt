@@ -137,8 +137,7 @@ fn note(under: Under, byte: u8, offset: u64) -> Option<Note>
             at: offset,
         }),
         Under::Three(head, first, second)
-            if head % 16 > 1 && !suits(head % 16, first, second, byte) =>
-        {
+            if head % 16 > 1 && !suits(head % 16, first, second, byte) => {
             Some(Note {
                 kind: NoteKind::CinMismatch,
                 at: offset.saturating_sub(3),
