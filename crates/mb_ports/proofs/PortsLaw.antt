@@ -291,7 +291,7 @@ ports_news-append gs (Carried p x ∷ es) fs =
     sym (append_assoc (map (ported p) (news (gs p) x)) (ports_news (one_more gs p x) es) (ports_news (groups_after (one_more gs p x) es) fs))
 ports_news-append gs (Remarked k ∷ es) fs = ap (λ z. unported k ∷ z) (ports_news-append gs es fs)
 
-EventsRise-front : (n low : ℕ) (es fs : List Event) → EventsRise n low (es ++ fs) → EventsRise n low es
+pub EventsRise-front : (n low : ℕ) (es fs : List Event) → EventsRise n low (es ++ fs) → EventsRise n low es
 EventsRise-front n low [] fs r = tt
 EventsRise-front n low (Carried p x ∷ es) fs r = (r.0, r.1, EventsRise-front n (x.at + 1) es fs r.2)
 EventsRise-front n low (Remarked k ∷ es) fs r = (r.0, r.1, EventsRise-front n (k.at + 1) es fs r.2)

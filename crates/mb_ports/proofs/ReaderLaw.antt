@@ -20,7 +20,7 @@ use Rattle.mb_din.proofs.Rises.{RisesFrom-heard, so_far-append}
 use Rattle.mb_ports.specs.Events.{Event, Carried, Remarked, port_payload, Ported, ported, unported, ports_so_far, ports_news, EventsRise}
 use Rattle.mb_ports.specs.Machine.{Machine, remark, remarked, carried_by, spot, byte_events, events_from, events, under_from, due_after, Steady}
 use Rattle.mb_ports.specs.Reader.{Whole, PortsStand, Holds, all_known, bare, Goes, Tells, AllTold, NextSays}
-use Rattle.mb_ports.proofs.PortsLaw.{last_groups, ports_law, ports_so_far-append, last_groups-port}
+use Rattle.mb_ports.proofs.PortsLaw.{EventsRise-front, last_groups, ports_law, ports_so_far-append, last_groups-port}
 use Rattle.mb_ports.proofs.MachineLaw.{events_from-append, under_from-append, LowPorts, EventsRise-less, rise-notes, events-rise, Headed, of_note, of_port, news-head, carried_run, port_payload-append, port_payload-notes, port_payload-own, port_payload-other, ports_news-run, steady-first, steady-events, steady-quiet}
 
 abbrev pub whole : {U : Type 0} → (offset : ℕ) → U → List Note → (ℕ → State) → Whole U
@@ -124,7 +124,7 @@ tells-due m n lows o u rs input due xs x e bytes told h front =
     let events_are : events m bytes ≡ taken ++ remarked (o - 1) xs = h.events_are ∙ (ap (λ z. h.taken ++ remarked (o - 1) z) e ∙ sym (append_assoc h.taken (Remarked k ∷ []) (remarked (o - 1) xs))) in
     let none : h.stand.ahead ≡ [] = elim h.rested [ inl no_due ↦ cc | inr rested ↦ rested ] in
     let rises : EventsRise n 0 ((h.taken ++ Remarked k ∷ []) ++ remarked (o - 1) xs) = subst (EventsRise n 0) events_are (events-rise m n lows m.start 0 0 bytes (omega arith)) in
-    let known : ports_so_far n taken ≡ ports_so_far n h.taken ++ unported k ∷ [] = ports_so_far-append n 0 h.taken (Remarked k ∷ []) (rises-front n 0 taken (remarked (o - 1) xs) rises) in
+    let known : ports_so_far n taken ≡ ports_so_far n h.taken ++ unported k ∷ [] = ports_so_far-append n 0 h.taken (Remarked k ∷ []) (EventsRise-front n 0 taken (remarked (o - 1) xs) rises) in
     let s = h.stand in
     let told_is : told ≡ ports_so_far n h.taken = s.told_is ∙ (ap (λ z. ports_so_far n h.taken ++ map (ported s.port) z) none ∙ append-nil (ports_so_far n h.taken)) in
     let all : told ++ unported k ∷ [] ≡ ports_so_far n taken = ap (λ z. z ++ unported k ∷ []) told_is ∙ sym known in
@@ -156,11 +156,7 @@ tells-due m n lows o u rs input due xs x e bytes told h front =
         ports_news (last_groups taken) (remarked (o - 1) xs ++ events_from m u o input),
         ap (ports_so_far n) more_is ∙ (later ∙ ap (λ z. z ++ ports_news (last_groups taken) (remarked (o - 1) xs ++ events_from m u o input)) (sym all)),
       );
-    } where
-      rises-front : (n low : ℕ) (es fs : List Event) → EventsRise n low (es ++ fs) → EventsRise n low es
-      rises-front n low [] fs r = tt
-      rises-front n low (Carried p x ∷ es) fs r = (r.0, r.1, rises-front n (x.at + 1) es fs r.2)
-      rises-front n low (Remarked k ∷ es) fs r = (r.0, r.1, rises-front n (k.at + 1) es fs r.2)
+    }
 
 -- A byte that no port has.
 
