@@ -17,7 +17,7 @@ use Rattle.mb_ports.specs.Events.{Event, port_payload, Ported, ported, ports_so_
 use Rattle.mb_ports.specs.Machine.{Machine, remarked, events_from, events, under_from, due_after, Steady}
 use Rattle.mb_ports.specs.Reader.{PortsStand, Holds, all_known, bare, Tells, NextSays}
 use Rattle.mb_ports.proofs.PortsLaw.{EventsRise-front, groups_after, ports_news-append, ports_so_far-append, last_groups, last_groups-port}
-use Rattle.mb_ports.proofs.MachineLaw.{events_from-append, under_from-append, LowPorts, EventsRise-less, rise-notes, events-rise, carried_run, port_payload-append, port_payload-own, port_payload-other, ports_news-run, steady-first, steady-events, steady-quiet}
+use Rattle.mb_ports.proofs.MachineLaw.{events_from-append, under_from-append, LowPorts, rise-notes, events-rise, carried_run, port_payload-append, port_payload-own, port_payload-other, ports_news-run, steady-first, steady-events, steady-quiet}
 use Rattle.mb_ports.proofs.ReaderLaw.{whole, AheadAt, stands-ahead, not-ahead, front-rest, events-more, known-more, map-nil, every-stands}
 
 map-append : {A B : Type 0} (f : A → B) (xs ys : List A) → map f (xs ++ ys) ≡ map f xs ++ map f ys

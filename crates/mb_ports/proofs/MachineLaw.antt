@@ -10,7 +10,7 @@ use Rattle.mb_stream.proofs.OrderLemmas.{Climb}
 use Rattle.mb_stream.proofs.NewsLaw.{news-climbs}
 use Rattle.mb_ports.specs.Events.{Event, Carried, Remarked, port_payload, Ported, ported, unported, one_more, ports_news, EventsRise}
 use Rattle.mb_ports.specs.Machine.{Machine, remark, remarked, carried_by, spot, byte_events, events_from, events, under_from, due_after, Steady}
-use Rattle.mb_ports.proofs.PortsLaw.{groups_after}
+use Rattle.mb_ports.proofs.PortsLaw.{EventsRise-less}
 
 next_offset : (a n : ℕ) → a + 1 + n ≡ a + suc n
 next_offset a n = omega arith
@@ -30,11 +30,6 @@ under_from-append m u [] ys = refl
 under_from-append m u (x ∷ xs) ys = under_from-append m (m.after u x) xs ys
 
 -- Offsets rise.
-
-pub EventsRise-less : (n low high : ℕ) (es : List Event) → low ≤ high → EventsRise n high es → EventsRise n low es
-EventsRise-less n low high [] h r = tt
-EventsRise-less n low high (Carried p x ∷ es) h r = (r.0, omega (arith, r.1), r.2)
-EventsRise-less n low high (Remarked k ∷ es) h r = (omega (arith, r.0), r.1, r.2)
 
 pub rise-notes : (n low at : ℕ) (xs : List Note) (es : List Event) → low ≤ at + 1 → EventsRise n (at + 1) es → EventsRise n low (remarked at xs ++ es)
 rise-notes n low at [] es h r = EventsRise-less n low (at + 1) es h r

@@ -296,6 +296,16 @@ EventsRise-front n low [] fs r = tt
 EventsRise-front n low (Carried p x ∷ es) fs r = (r.0, r.1, EventsRise-front n (x.at + 1) es fs r.2)
 EventsRise-front n low (Remarked k ∷ es) fs r = (r.0, r.1, EventsRise-front n (k.at + 1) es fs r.2)
 
+pub EventsRise-less : (n low high : ℕ) (es : List Event) → low ≤ high → EventsRise n high es → EventsRise n low es
+EventsRise-less n low high [] h r = tt
+EventsRise-less n low high (Carried p x ∷ es) h r = (r.0, omega (arith, r.1), r.2)
+EventsRise-less n low high (Remarked k ∷ es) h r = (omega (arith, r.0), r.1, r.2)
+
+pub rises-back : (n low : ℕ) (es fs : List Event) → EventsRise n low (es ++ fs) → EventsRise n low fs
+rises-back n low [] fs r = r
+rises-back n low (Carried p x ∷ es) fs r = let h : low ≤ x.at = r.1 in EventsRise-less n low (x.at + 1) fs (omega arith) (rises-back n (x.at + 1) es fs r.2)
+rises-back n low (Remarked k ∷ es) fs r = let h : low ≤ k.at + 1 = r.0 in EventsRise-less n low (k.at + 1) fs h (rises-back n (k.at + 1) es fs r.2)
+
 abbrev pub last_groups : List Event → ℕ → Group
 last_groups es = groups_after (λ _. no_group) es
 

@@ -21,7 +21,7 @@ use Rattle.mb_ports.specs.Events.{Event, Carried, Remarked, port_payload, Ported
 use Rattle.mb_ports.specs.Machine.{Machine, remark, remarked, carried_by, spot, byte_events, events_from, events, under_from, due_after, Steady}
 use Rattle.mb_ports.specs.Reader.{Whole, PortsStand, Holds, all_known, bare, Goes, Tells, AllTold, NextSays}
 use Rattle.mb_ports.proofs.PortsLaw.{EventsRise-front, last_groups, ports_law, ports_so_far-append, last_groups-port}
-use Rattle.mb_ports.proofs.MachineLaw.{events_from-append, under_from-append, LowPorts, EventsRise-less, rise-notes, events-rise, Headed, of_note, of_port, news-head, carried_run, port_payload-append, port_payload-notes, port_payload-own, port_payload-other, ports_news-run, steady-first, steady-events, steady-quiet}
+use Rattle.mb_ports.proofs.MachineLaw.{events_from-append, under_from-append, LowPorts, rise-notes, events-rise, Headed, of_note, of_port, news-head, carried_run, port_payload-append, port_payload-notes, port_payload-own, port_payload-other, ports_news-run, steady-first, steady-events, steady-quiet}
 
 abbrev pub whole : {U : Type 0} → (offset : ℕ) → U → List Note → (ℕ → State) → Whole U
 whole o u due readers = record { offset = o; under = u; due = due; readers = readers }
