@@ -1,3 +1,4 @@
+pub mod CablesLaw
 pub mod CarrierLaws
 mod Examples
 pub mod GoodCuts

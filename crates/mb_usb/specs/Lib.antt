@@ -1,3 +1,4 @@
+pub mod Cables
 pub mod Hands
 pub mod Held
 pub mod Packets
