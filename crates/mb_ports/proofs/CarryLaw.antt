@@ -226,9 +226,9 @@ tells-carry m n lows o u rs readers p room ys after kept ts answer call bytes to
     (sym known_ys ∙ (ap so_far (sym with_nothing) ∙ (d.still.1 ∙ (ap (λ z. z ++ d.still.0) (append_assoc (so_far entries) st.ahead d.fresh) ∙ append_assoc (so_far entries) (st.ahead ++ d.fresh) d.still.0)))) in
     let later = ports_news (groups_after (last_groups h.taken) (carried_run p o ys)) c.es in
     let none_ahead : kept ≡ [] → now.ahead ≡ [] = λ empty.
-        let same : ys ≡ ts = call.cut ∙ (ap (λ z. ts ++ z) empty ∙ append-nil ts) in
-        nil-behind (news_from g run) now.ahead d.still.0
-        (rest_is ∙ ap (λ z. z ++ d.still.0) (split ∙ ap (λ z. news_from g (heard_from o 0 z) ++ now.ahead) (sym same))) in
+    let same : ys ≡ ts = call.cut ∙ (ap (λ z. ts ++ z) empty ∙ append-nil ts) in
+    nil-behind (news_from g run) now.ahead d.still.0
+    (rest_is ∙ ap (λ z. z ++ d.still.0) (split ∙ ap (λ z. news_from g (heard_from o 0 z) ++ now.ahead) (sym same))) in
     let own_payload : port_payload p taken' ≡ entries ++ heard_from o 0 ts = port-run h.taken p o ts in
     let fits_cut : length (ts ++ kept) ≤ room = omega (arith, call.fits, ap length call.cut) in
     record {
@@ -255,6 +255,6 @@ tells-carry m n lows o u rs readers p room ys after kept ts answer call bytes to
       still = (
         map (ported p) d.still.0 ++ later,
         known ∙ (ap (λ z. ports_so_far n h.taken ++ (z ++ later)) (ap (map (ported p)) rest_is ∙ map-append (ported p) (st.ahead ++ d.fresh) d.still.0) ∙
-        (sym (front-behind (ports_so_far n h.taken) p st.ahead d.fresh d.still.0 later) ∙ ap (λ z. (z ++ map (ported p) d.fresh) ++ (map (ported p) d.still.0 ++ later)) (sym st.told_is))),
+            (sym (front-behind (ports_so_far n h.taken) p st.ahead d.fresh d.still.0 later) ∙ ap (λ z. (z ++ map (ported p) d.fresh) ++ (map (ported p) d.still.0 ++ later)) (sym st.told_is))),
       );
     }

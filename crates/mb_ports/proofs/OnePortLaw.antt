@@ -75,6 +75,7 @@ no-port k q ys rest [] low rank heads e = cc
 no-port k q ys rest (y ∷ zs) low rank heads e = by_head (heads y zs refl) where
   same : y.known ≡ k
   same = cc
+
   by_head : Headed 1 0 y → IsFront (map (ported q) (k ∷ [])) (y ∷ zs)
   by_head (of_note none four) = absurd (omega (arith, four, rank, ap (λ (z : Known). z.rank) same))
   by_head (of_port c below is high) =

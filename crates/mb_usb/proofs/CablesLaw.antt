@@ -203,6 +203,7 @@ step-notes m u at b bs = by_port (m.port u) (m.notes u b at) (events_from m (m.a
   noted : (xs : List Note) (es : List Event) → unit_notes (remarked at xs ++ es) ≡ map (remark at) xs ++ unit_notes es
   noted [] es = refl
   noted (x ∷ xs) es = ap (λ z. remark at x ∷ z) (noted xs es)
+
   by_port : (port : Option ℕ) (xs : List Note) (es : List Event) → unit_notes ((carried_by port (spot at b) ++ remarked at xs) ++ es) ≡ map (remark at) xs ++ unit_notes es
   by_port None xs es = noted xs es
   by_port (Some p) xs es = noted xs es

@@ -1,5 +1,6 @@
 pub mod CablesLaw
 pub mod CarrierLaws
+pub mod EachCable
 mod Examples
 pub mod GoodCuts
 pub mod HandsLemmas
@@ -13,6 +14,8 @@ mod Places
 pub mod ReadLemmas
 mod RecordingExamples
 pub mod RunningLemmas
+pub mod Steps
 pub mod UsbLaw
+pub mod UsbReaderLaw
 pub mod WriterLemmas
 pub mod WrittenCuts

@@ -1,6 +1,6 @@
 -- What a call keeps true of the packets and of each cable's reader, and by what callers' loops end.
-use Rattle.std.proofs.Common.{◌≡◌, ℕ, zero, suc, ◌+◌, ◌*◌, ◌/◌, ◌%◌, ◌<◌, ◌≤◌, ◌≢◌, ◌⊎◌, inl, inr, Bool, true, false, ◌||◌, ◌==◌, nat_le, if◌then◌else◌, Option, Some, None, is_none, List, [], ◌∷◌, ◌++◌, length, set, get_or, refl, sym, ◌∙◌, ap, ap₂, subst, arith, length-append}
-use Rattle.std.proofs.lemmas.List.{get_or-set_same, get_or-set_other, get_or_default}
+use Rattle.std.proofs.Common.{◌≡◌, ℕ, zero, suc, ◌+◌, ◌*◌, ◌/◌, ◌%◌, ◌<◌, ◌≤◌, ◌≢◌, Bool, true, false, ◌||◌, ◌==◌, nat_le, if◌then◌else◌, Option, Some, None, is_none, List, [], ◌∷◌, ◌++◌, length, set, drop, get_or, refl, sym, ◌∙◌, ap, ap₂, subst, arith, length-append}
+use Rattle.std.proofs.lemmas.List.{get_or-set_same, get_or-set_other, get_or_default, length-drop}
 use Rattle.std.specs.Prelude.{OnSome}
 use Rattle.std.proofs.lemmas.Bool.{or_right}
 use Rattle.std.proofs.lemmas.Bool.Decides.{nat_tests}
@@ -141,3 +141,18 @@ read-owed was now dins i next d input left answer low h at none over falls =
 pub some_weaker : {T P Q : Type 0} (o : Option T) → (P → Q) → OnSome o P → OnSome o Q
 some_weaker None f p = p
 some_weaker (Some x) f p = f p
+
+-- a byte that no cable carries was taken
+pub pass-behind : (p q r : Packet) (dins : List State) (b : ℕ) → AreBehind p dins → q ≡ record p { due = None } → r ≡ packet_after q b → AreBehind r dins
+pass-behind p q r dins b h same after = record {
+  rested = ap is_rested after ∙ rested-after q b;
+  low = λ c below. omega (arith, h.low c below, ap (λ (z : Packet). z.offset) same, ap (λ (z : Packet). z.offset) after);
+}
+
+-- what was handed to a cable's reader was taken whole
+pub shorter : (left : ℕ) (input rest behind : List ℕ) (b : ℕ) → left ≢ 0 → input ≡ b ∷ rest → behind ≡ drop left input → length behind < length input
+shorter left input rest behind b over first e =
+    omega (arith, ap length first, ap length e, length-drop left input)
+
+pub falls : (p : Packet) (r : State) (behind input : List ℕ) (owes most : ℕ) → length behind < length input → 2 * length input + owes ≤ most → 2 * length behind + owed_of p r ≤ most
+falls p r behind input owes most less h = omega (arith, owed-bound p r)

@@ -1,10 +1,16 @@
 //! The reader of all cables.
 
-ghost use Rattle.std.specs.Prelude.{◌≡◌, ◌≢◌, ◌+◌, ◌*◌, ◌/◌, ◌<◌, ◌^◌, [], ℕ, length, drop, OnSome, IfNone};
+ghost use Rattle.std.specs.Prelude.{◌≡◌, ◌≢◌, ◌+◌, ◌*◌, ◌/◌, ◌%◌, ◌<◌, ◌^◌, None, [], ℕ, List, length, drop, OnSome, IfNone};
 ghost use Rattle.mb_din.specs.Turn.{answer};
 ghost use Rattle.mb_din.specs.State.{fresh};
 ghost use Rattle.mb_usb.specs.Under.{left_of, head_of};
 ghost use Rattle.mb_usb.specs.Hands.{Hands};
+ghost use Rattle.mb_stream.specs.Groups.{last_of};
+ghost use Rattle.mb_stream.specs.Told.{at_end};
+ghost use Rattle.mb_ports.specs.Events.{Ported};
+ghost use Rattle.mb_ports.specs.Reader.{Tells, AllTold};
+ghost use Rattle.mb_usb.specs.Reading.{cable_payload};
+ghost use Rattle.mb_usb.specs.Cables.{all_cables_so_far, UsbHolds, UsbStands, UsbTells, UsbAllTold, port_answer};
 ghost use Rattle.mb_usb.specs.State.{owed, owed_of, AreBehind, reader_at};
 
 use crate::carry::carry;
@@ -33,7 +39,10 @@ impl Model for UsbReader {
 
 impl UsbReader {
     /// The next byte has offset 0.
-    pub fn new() -> UsbReader {
+    pub fn new() -> UsbReader
+        ensures offset { result.packet.offset ≡ 0 }
+        ensures stands { UsbStands result [] [] }
+    {
         UsbReader {
             packet: Packet::new(),
             dins: array::from_fn(
@@ -51,6 +60,11 @@ impl UsbReader {
     #[inline(always)]
     pub fn next<'a>(&mut self, input: &mut &'a [u8]) -> Option<PortSeen<'a>>
         requires early { self.old.packet.offset + length input.old.now < 2 ^ 63 }
+
+        // What it takes and answers, whatever was taken and told before.
+        ensures tells { UsbTells self.old self.new input.old.now input.new.now (port_answer result) }
+        ensures some { OnSome result (port_answer result ≡ [] → ⊥) }
+        ensures all_told { IfNone result (UsbAllTold self.old input.old.now) }
         ensures end { self.new.packet.offset + length input.new.now ≡ self.old.packet.offset + length input.old.now }
         ensures none { IfNone result (input.new.now ≡ []) }
 
@@ -64,13 +78,17 @@ impl UsbReader {
     /// an open SysEx. The cable then stands as a fresh one does.
     pub fn finish_port(&mut self, cable: u8) -> Option<Seen<'static>>
         requires { cable < 16 }
+        ensures told { (bytes : List ℕ) → UsbStands self.old bytes (all_cables_so_far bytes) → answer result ≡ at_end (last_of (cable_payload cable bytes)) }
+        ensures as_fresh { reader_at self.new.readers cable ≡ record fresh { offset = (reader_at self.old.readers cable).offset } }
+        ensures others { (c : ℕ) → c ≢ cable → reader_at self.new.readers c ≡ reader_at self.old.readers c }
+        ensures packets { self.new.packet ≡ self.old.packet }
     {
         self.dins[cable as usize].finish()
     }
 
     /// How many bytes of an unfinished packet were taken, 0 to 3.
     pub fn partial(&self) -> u8
-        ensures { result < 4 }
+        ensures { (bytes : List ℕ) (told : List Ported) → UsbStands self.now bytes told → result ≡ length bytes % 4 }
     {
         taken(self.packet.under)
     }
@@ -85,6 +103,9 @@ fn read<'a>(
 ) -> Option<PortSeen<'a>>
     requires early { packet.old.offset + length input.old.now < 2 ^ 63 }
     requires behind { AreBehind packet.old dins.old }
+    ensures tells { Tells all_cables_so_far (UsbHolds packet.old dins.old) (UsbHolds packet.new dins.new) input.old.now input.new.now (port_answer result) }
+    ensures some { OnSome result (port_answer result ≡ [] → ⊥) }
+    ensures all_told { IfNone result (AllTold all_cables_so_far (UsbHolds packet.old dins.old) input.old.now) }
     ensures behind { AreBehind packet.new dins.new }
     ensures end { packet.new.offset + length input.new.now ≡ packet.old.offset + length input.old.now }
     ensures none { IfNone result (input.new.now ≡ []) }
