@@ -150,14 +150,14 @@ rested-by m u p room o ts [] ahead steady fits none = inr (none refl)
 rested-by m u p room o ts (b ∷ bs) ahead steady fits none =
     inl (steady-quiet m u p room o ts steady (omega (arith, length-append ts (b ∷ bs))))
 
-pub record Call {U : Type 0} (m : Machine U) (o : ℕ) (u : U) (rs readers : ℕ → State) (p room : ℕ) (ys kept ts : List ℕ) (answer : List Told) : Type 0 where
+pub record Call {U : Type 0} (m : Machine U) (n o : ℕ) (u : U) (rs readers : ℕ → State) (p room : ℕ) (ys kept ts : List ℕ) (answer : List Told) : Type 0 where
   pub steady : Steady m u p room
   pub fits : length ys ≤ room
   pub some : 0 < length ys
   pub cut : ys ≡ ts ++ kept
   pub stays : (es : List Entry) → Stands (rs p) es (so_far es) → Stands (placed_at o (rs p)) es (so_far es)
   pub says : NextSays (placed_at o (rs p)) (readers p) ys kept answer
-  pub others : (c : ℕ) → (c ≡ p → ⊥) → readers c ≡ rs c
+  pub others : (c : ℕ) → c < n → (c ≡ p → ⊥) → readers c ≡ rs c
 
 -- what is known of all events with the input: first what the bytes make known of their port
 known-carry : {U : Type 0} (m : Machine U) (n : ℕ) → LowPorts m n → (o : ℕ) (u : U) (p : ℕ) (bytes ys after : List ℕ) (taken es : List Event) → o ≡ length bytes → u ≡ under_from m m.start bytes →
@@ -187,7 +187,7 @@ started m n lows o u rs p bytes ys after told h es rises is below front stays =
     ]
 
 pub tells-carry : {U : Type 0} (m : Machine U) (n : ℕ) → LowPorts m n → (o : ℕ) (u : U) (rs readers : ℕ → State) (p room : ℕ) (ys after kept ts : List ℕ) (answer : List Told) →
-    Call m o u rs readers p room ys kept ts answer →
+    Call m n o u rs readers p room ys kept ts answer →
     Tells (all_known m n) (Holds m n (whole o u [] rs)) (Holds m n (whole (o + length ts) (under_from m u ts) (due_after m u [] o ts) readers)) (ys ++ after) (kept ++ after) (map (λ t. (Some p, t)) answer)
 tells-carry m n lows o u rs readers p room ys after kept ts answer call bytes told h front =
     let below : p < n = lows u p (steady-first m u p room (omega (arith, call.some, call.fits)) call.steady) in
@@ -247,7 +247,7 @@ tells-carry m n lows o u rs readers p room ys after kept ts answer call bytes to
           ahead = now.ahead;
           told_is = told_now;
           own = subst (λ z. Stands (readers p) z (so_far z ++ now.ahead)) (sym own_payload) (subst (Stands (readers p) (entries ++ heard_from o 0 ts)) now.told_is now);
-          others = λ q low apart. subst (λ z. Stands (readers q) z (so_far z)) (sym (other-run h.taken p q o ts apart)) (subst (λ z. Stands z (port_payload q h.taken) (so_far (port_payload q h.taken))) (sym (call.others q apart)) (st.others q low apart));
+          others = λ q low apart. subst (λ z. Stands (readers q) z (so_far z)) (sym (other-run h.taken p q o ts apart)) (subst (λ z. Stands z (port_payload q h.taken) (so_far (port_payload q h.taken))) (sym (call.others q low apart)) (st.others q low apart));
         };
         here = inr (d.offset ∙ ap (λ z. o + length z) taken_is);
         rested = rested-by m u p room o ts kept now.ahead call.steady fits_cut none_ahead;

@@ -6,7 +6,7 @@ use Rattle.mb_message.specs.declared.note.Note.{Note}
 use Rattle.mb_stream.specs.Payload.{Entry}
 use Rattle.mb_stream.specs.Told.{Told, Known}
 use Rattle.mb_stream.specs.Order.{not_after, put_in, in_order}
-use Rattle.mb_stream.specs.Reading.{payload_told}
+use Rattle.mb_stream.specs.Reading.{payload_told, so_far}
 use Rattle.mb_din.specs.Reader.{Stands, IsFront}
 use Rattle.mb_din.specs.State.{State}
 use Rattle.mb_ports.specs.Events.{Event, port_payload, unit_notes, Ported, ported, unported, known_of, ports_so_far, ports_news, EventsRise}
@@ -15,7 +15,7 @@ use Rattle.mb_ports.specs.Reader.{Whole, PortsStand, Holds, all_known, bare, Goe
 use Rattle.mb_ports.specs.OnePort.{one_known, HoldsOne, GoesOne, TellsOne, AllToldOne}
 use Rattle.mb_ports.proofs.PortsLaw.{rises-back, last_groups, ports_so_far-append}
 use Rattle.mb_ports.proofs.MachineLaw.{events_from-append, LowPorts, events-rise, Headed, of_note, of_port, news-head}
-use Rattle.mb_ports.proofs.ReaderLaw.{whole, AheadAt, stands-ahead, events-more, front-rest}
+use Rattle.mb_ports.proofs.ReaderLaw.{whole, AheadAt, stands-ahead, events-more, map-nil, finish-stands}
 
 -- Order without ports.
 
@@ -147,3 +147,18 @@ one-stays m lows bytes more =
     let known : all_known m 1 (bytes ++ more) ≡ all_known m 1 bytes ++ news =
     ap (ports_so_far 1) all ∙ ports_so_far-append 1 0 (events m bytes) (events_from m (under_from m m.start bytes) (0 + length bytes) more) (subst (EventsRise 1 0) all (events-rise m 1 lows m.start 0 0 (bytes ++ more) (omega arith))) in
     (map known_of news, ap (map known_of) known ∙ known-append (all_known m 1 bytes) news)
+
+-- where all is told, the port's reader stands for the port's payload
+pub finish-one : {U : Type 0} (m : Machine U) → LowPorts m 1 → (now : Whole U) (bytes : List ℕ) → HoldsOne m now bytes (one_known m bytes) →
+    Stands (now.readers 0) (port_payload 0 (events m bytes)) (so_far (port_payload 0 (events m bytes)))
+finish-one m lows now bytes h =
+    let same : all_known m 1 (bytes ++ []) ≡ all_known m 1 bytes = ap (all_known m 1) (append-nil bytes) in
+    let known : map known_of (all_known m 1 (bytes ++ [])) ≡ map known_of h.with_port = ap (map known_of) same ∙ h.told_is in
+    let f : IsFront h.with_port (all_known m 1 (bytes ++ [])) =
+    with-ports m lows now bytes [] h.with_port h.holds ([], known ∙ sym (append-nil (map known_of h.with_port))) in
+    let rest : map known_of f.0 ≡ [] =
+    append_cancel_left (map known_of h.with_port) (map known_of f.0) []
+    (sym (known-append h.with_port f.0) ∙ (sym (ap (map known_of) f.1) ∙ (known ∙ sym (append-nil (map known_of h.with_port))))) in
+    let all : h.with_port ≡ all_known m 1 bytes =
+    sym (append-nil h.with_port) ∙ (ap (λ z. h.with_port ++ z) (sym (map-nil known_of f.0 rest)) ∙ (sym f.1 ∙ same)) in
+    finish-stands m 1 lows now.offset now.under now.due now.readers bytes (subst (Holds m 1 now bytes) all h.holds) 0 (omega arith)

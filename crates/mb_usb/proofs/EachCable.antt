@@ -60,7 +60,7 @@ then-carry was start input rest left p q r dins next port b seen tells due same 
     (subst (λ (z : List ℕ → List Ported → Type 0). Tells all_cables_so_far z (UsbHolds r next) input left told) (sym (undue p q dins due same))
     (each-tells (UsbHolds q dins) (UsbHolds r next) input left told
     (step-carry each_cable 16 each_low q r (reader_at dins) (reader_at next) port b input rest left (answer seen) (ap (λ (z : Packet). z.due) same)
-    (carried-by (left_of q.under) (each_cable (head_of q.under / 16)) port over (each-is (head_of q.under / 16) port at low)) over first hands others)))
+    (carried-by (left_of q.under) (each_cable (head_of q.under / 16)) port over (each-is (head_of q.under / 16) port at low)) over first hands (λ c low_port apart. others c apart))))
 
 pub then-none : (was : List ℕ → List Ported → Type 0) (start input : List ℕ) (p q : Packet) (dins : List State) → Tells all_cables_so_far was (UsbHolds p dins) start input [] →
     p.due ≡ None → q ≡ record p { due = None } → Tells all_cables_so_far was (UsbHolds q dins) start input []

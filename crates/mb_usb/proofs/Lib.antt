@@ -8,6 +8,7 @@ pub mod HeldBytes
 pub mod HeldClean
 pub mod Loops
 pub mod PacketFacts
+pub mod OnlyCable
 mod PacketPlaces
 pub mod PayloadMarks
 mod Places

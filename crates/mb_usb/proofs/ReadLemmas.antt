@@ -35,7 +35,7 @@ rested-by (One h) b at = refl
 rested-by (Two h a) b at = refl
 rested-by (Three h a b) c at = or-true (is_none (note_at (Three h a b) c at))
 
-rested-after : (p : Packet) (b : ℕ) → is_rested (packet_after p b) ≡ true
+pub rested-after : (p : Packet) (b : ℕ) → is_rested (packet_after p b) ≡ true
 rested-after p b = rested-by p.under b p.offset
 
 pub rested-behind : (p : Packet) (bs : List ℕ) → is_rested p ≡ true → is_rested (packet_behind p bs) ≡ true
@@ -44,13 +44,13 @@ rested-behind p (b ∷ bs) h = rested-behind (packet_after p b) bs (rested-after
 
 -- What is owed.
 
-owed-reader : (p : Progress) → din.owed_of p ≤ 1
+pub owed-reader : (p : Progress) → din.owed_of p ≤ 1
 owed-reader Idle = omega arith
 owed-reader (Running s) = omega arith
 owed-reader (Begun s first at) = omega arith
 owed-reader InSysex = omega arith
 
-owed_by-bound : (due : Option Note) (left r : ℕ) → r ≤ 1 → owed_by due left r ≤ 1
+pub owed_by-bound : (due : Option Note) (left r : ℕ) → r ≤ 1 → owed_by due left r ≤ 1
 owed_by-bound (Some x) left r h = omega arith
 owed_by-bound None left r h = by_left (left == 0) where
   by_left : (t : Bool) → (if t then 0 else r) ≤ 1

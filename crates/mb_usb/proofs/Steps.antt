@@ -78,12 +78,12 @@ piece-some zero b rest h = absurd (h refl)
 piece-some (suc left) b rest h = omega arith
 
 pub step-carry : (f : ℕ → Option ℕ) (n : ℕ) → LowPorts (usb f) n → (p q : Packet) (rs readers : ℕ → State) (port b : ℕ) (input rest left : List ℕ) (answer : List Told) → p.due ≡ None →
-    port_by (left_of p.under) (f (head_of p.under / 16)) ≡ Some port → left_of p.under ≢ 0 → input ≡ b ∷ rest → Hands p q (rs port) (readers port) input left answer → ((c : ℕ) → (c ≡ port → ⊥) → readers c ≡ rs c) →
+    port_by (left_of p.under) (f (head_of p.under / 16)) ≡ Some port → left_of p.under ≢ 0 → input ≡ b ∷ rest → Hands p q (rs port) (readers port) input left answer → ((c : ℕ) → c < n → (c ≡ port → ⊥) → readers c ≡ rs c) →
     Tells (all_known (usb f) n) (HoldsAt f n p rs) (HoldsAt f n q readers) input left (map (λ t. (Some port, t)) answer)
 step-carry f n lows p q rs readers port b input rest left answer due here over first h others =
     let many = left_of p.under in
     let seen = map (λ t. (Some port, t)) answer in
-    let call : Call (usb f) p.offset p.under rs readers port many (piece_of p input) h.kept h.taken answer = record {
+    let call : Call (usb f) n p.offset p.under rs readers port many (piece_of p input) h.kept h.taken answer = record {
       steady = steady f p.under port here;
       fits = omega (arith, length-take many input);
       some = subst (λ (z : List ℕ). 0 < length (take many z)) (sym first) (piece-some many b rest over);

@@ -10,7 +10,7 @@ use Rattle.mb_message.specs.declared.note.Note.{Note}
 use Rattle.mb_din.specs.State as din
 use Rattle.mb_din.specs.State.{State}
 use Rattle.mb_usb.specs.declared.under.Packet.{Packet}
-use Rattle.mb_usb.specs.Under.{left_of, head_of, is_rested}
+use Rattle.mb_usb.specs.Under.{left_of, head_of, is_of_cable, is_rested}
 
 pub record UsbState : Type 0 where
   pub packet : Packet
@@ -38,3 +38,14 @@ owed s = owed_of s.packet (reader_at s.readers (head_of s.packet.under / 16))
 pub record AreBehind (p : Packet) (rs : List State) : Type 0 where
   pub rested : is_rested p ≡ true
   pub low : (c : ℕ) → c < 16 → (reader_at rs c).offset ≤ p.offset
+
+-- what a reader of one cable may tell
+abbrev pub owed_alone : (cable : ℕ) → Packet → State → ℕ
+owed_alone cable p r = owed_by p.due (if is_of_cable cable p.under then 1 else 0) (din.owed r)
+
+abbrev pub owed_one : CableState → ℕ
+owed_one s = owed_alone s.cable s.packet s.reader
+
+pub record IsBehind (p : Packet) (r : State) : Type 0 where
+  pub rested : is_rested p ≡ true
+  pub low : r.offset ≤ p.offset

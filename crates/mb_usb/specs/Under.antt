@@ -5,7 +5,7 @@
 --   left_of u             how many bytes are still to come of it that its cable carries
 --   note_at u b at        the note on a packet that the byte at an offset makes known
 --   packet_behind p bs    what a reader keeps of packets behind bytes
-use Rattle.std.specs.Prelude.{ℕ, ◌+◌, ◌-◌, ◌%◌, Bool, ◌||◌, ◌==◌, nat_le, if◌then◌else◌, List, [], ◌∷◌, Option, Some, None, is_none}
+use Rattle.std.specs.Prelude.{ℕ, ◌+◌, ◌-◌, ◌/◌, ◌%◌, Bool, not, ◌&&◌, ◌||◌, ◌==◌, nat_le, if◌then◌else◌, List, [], ◌∷◌, Option, Some, None, is_none}
 use Rattle.mb_message.specs.declared.note.Note.{Note}
 use Rattle.mb_message.specs.declared.note.NoteKind.TheVariants.{ReservedCin, CinMismatch}
 use Rattle.mb_usb.specs.declared.under.Under.{Under}
@@ -37,6 +37,10 @@ left_of Between = 0
 left_of (One h) = used (h % 16)
 left_of (Two h a) = used (h % 16) - 1
 left_of (Three h a b) = used (h % 16) - 2
+
+-- the next byte is one that the packet carries on a cable
+abbrev pub is_of_cable : (cable : ℕ) → Under → Bool
+is_of_cable cable u = (head_of u / 16 == cable) && not (left_of u == 0)
 
 -- a reserved code index number is known at the first byte, bytes that don't suit theirs at the fourth
 abbrev pub note_at : Under → (byte at : ℕ) → Option Note

@@ -4,6 +4,7 @@
 //! real-time message doesn't wait for them. The writer never grows and refuses nothing.
 #![tactic(auto)]
 
+mod cable;
 mod carry;
 pub mod laws;
 mod packet;
@@ -11,6 +12,7 @@ mod reader;
 mod under;
 mod writer;
 
+pub use cable::CableReader;
 pub use reader::UsbReader;
 pub use writer::{FINISH_ROOM, PUT_ROOM, UsbWriter};
 

@@ -2,7 +2,7 @@
 
 ghost use Rattle.std.specs.Prelude.{◌≡◌, ◌+◌, ◌/◌, ◌^◌, ◌<◌, ◌≤◌, length, List};
 ghost use Rattle.mb_usb.specs.Reading.{used, suits_cin};
-ghost use Rattle.mb_usb.specs.Under.{packet_after, packet_behind, under_after, left_of, note_at, head_of, taken_of};
+ghost use Rattle.mb_usb.specs.Under.{packet_after, packet_behind, under_after, left_of, note_at, head_of, is_of_cable, taken_of};
 
 use mb_message::{Note, NoteKind};
 
@@ -99,6 +99,14 @@ pub fn cable(under: Under) -> u8
         Under::Between => 0,
         Under::One(head) | Under::Two(head, _) | Under::Three(head, _, _) => head / 16,
     }
+}
+
+/// Whether the next byte is one that the packet under way carries on a cable.
+#[inline(always)]
+pub fn is_of(under: Under, own: u8) -> bool
+    ensures { result ≡ is_of_cable own under }
+{
+    cable(under) == own && left(under) != 0
 }
 
 /// How many bytes of the packet under way were taken.
