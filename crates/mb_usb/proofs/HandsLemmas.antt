@@ -13,13 +13,13 @@ use Rattle.mb_usb.specs.declared.under.Packet.{Packet}
 use Rattle.mb_usb.specs.Under.{left_of, packet_after, packet_behind}
 use Rattle.mb_usb.specs.Hands.{Hands, piece_of, placed}
 
-take-all : (l : ℕ) (xs : List ℕ) → length xs ≤ l → take l xs ≡ xs
+pub take-all : (l : ℕ) (xs : List ℕ) → length xs ≤ l → take l xs ≡ xs
 take-all zero [] h = refl
 take-all (suc l) [] h = refl
 take-all zero (x ∷ xs) h = absurd (omega arith)
 take-all (suc l) (x ∷ xs) h = ap (λ z. x ∷ z) (take-all l xs (omega arith))
 
-drop-all : (l : ℕ) (xs : List ℕ) → length xs ≤ l → drop l xs ≡ []
+pub drop-all : (l : ℕ) (xs : List ℕ) → length xs ≤ l → drop l xs ≡ []
 drop-all zero [] h = refl
 drop-all (suc l) [] h = refl
 drop-all zero (x ∷ xs) h = absurd (omega arith)
@@ -42,19 +42,19 @@ packet_behind-offset p [] = let e : p.offset ≡ p.offset + 0 = omega arith in e
 packet_behind-offset p (b ∷ bs) = let e : p.offset + 1 + length bs ≡ p.offset + length (b ∷ bs) = omega arith in packet_behind-offset (packet_after p b) bs ∙ e
 
 -- a front of a front
-pub hands : (was now : Packet) (reader put next : State) (input piece kept taken behind : List ℕ) (n : ℕ) (answer : List Told) →
+pub hands-kept : (was now : Packet) (reader put next : State) (input piece kept taken behind : List ℕ) (n : ℕ) (answer : List Told) →
     piece ≡ take (min (length input) (left_of was.under)) input → put ≡ placed was reader → IsFrontTaken put next piece kept →
     n ≡ length piece - length kept → taken ≡ take n input → behind ≡ drop n input → now ≡ packet_behind was taken →
     ((es : List Entry) → Stands reader es (so_far es) → Stands put es (so_far es)) → NextSays put next piece kept answer →
-    Hands was now reader next input behind answer
-hands was now reader put next input piece kept taken behind n answer p at front count t l passed stays says =
+    (h : Hands was now reader next input behind answer) × (h.kept ≡ kept)
+hands-kept was now reader put next input piece kept taken behind n answer p at front count t l passed stays says =
     let left = left_of was.under in
     let piece_is : piece ≡ piece_of was input = p ∙ take-min input left in
     let all : input ≡ front.0 ++ (kept ++ drop left input) =
     sym (take-append-drop left input) ∙ (ap (λ z. z ++ drop left input) (sym piece_is ∙ front.1) ∙ append_assoc front.0 kept (drop left input)) in
     let many : n ≡ length front.0 = omega (arith, ap length front.1, length-append front.0 kept) in
     let taken_is : taken ≡ front.0 = t ∙ (ap₂ take many all ∙ take-append_seam front.0 (kept ++ drop left input)) in
-    record {
+    (record {
       taken = front.0;
       kept = kept;
       piece = sym piece_is ∙ front.1;
@@ -63,7 +63,7 @@ hands was now reader put next input piece kept taken behind n answer p at front 
       offset = front.2 ∙ ap (λ (s : State). s.offset + length front.0) at;
       stays = λ es s. subst (λ z. Stands z es (so_far es)) at (stays es s);
       says = subst (λ z. NextSays z next (piece_of was input) kept answer) at (subst (λ z. NextSays put next z kept answer) piece_is says);
-    }
+    }, refl)
 
 pub hands-end : (was now : Packet) (reader next : State) (input left : List ℕ) (answer : List Told) → Hands was now reader next input left answer →
     now.offset + length left ≡ was.offset + length input

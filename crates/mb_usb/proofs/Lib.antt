@@ -6,6 +6,7 @@ pub mod GoodCuts
 pub mod HandsLemmas
 pub mod HeldBytes
 pub mod HeldClean
+pub mod Longest
 pub mod Loops
 pub mod PacketFacts
 pub mod OnlyCable

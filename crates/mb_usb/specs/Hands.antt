@@ -4,7 +4,9 @@ use Rattle.std.specs.Prelude.{◌≡◌, ℕ, ◌+◌, List, ◌++◌, length, t
 use Rattle.mb_stream.specs.Payload.{Entry}
 use Rattle.mb_stream.specs.Told.{Told}
 use Rattle.mb_stream.specs.Reading.{so_far}
-use Rattle.mb_din.specs.Reader.{Stands}
+use Rattle.mb_message.specs.declared.event.PortSeen.{PortSeen}
+use Rattle.mb_message.specs.declared.event.PortSeen.TheVariants as port_seen
+use Rattle.mb_din.specs.Reader.{Stands, IsLongest}
 use Rattle.mb_din.specs.State.{State}
 use Rattle.mb_ports.specs.Reader.{NextSays}
 use Rattle.mb_usb.specs.declared.under.Packet.{Packet}
@@ -17,6 +19,11 @@ piece_of p input = take (left_of p.under) input
 -- a cable's reader, put to the offset of the next byte
 abbrev pub placed : Packet → State → State
 placed p r = record r { offset = p.offset }
+
+-- A run is the longest that stands side by side: `left` is what stands in the input of the packet's bytes that are still to come.
+abbrev pub IsLongestOf : (left : List ℕ) → PortSeen → Type 0
+IsLongestOf left (port_seen.Port c seen) = IsLongest left seen
+IsLongestOf left (port_seen.Unit n) = Unit {0}
 
 -- `kept` are those of the piece that were not taken
 pub record Hands (was now : Packet) (reader reader_now : State) (input left : List ℕ) (answer : List Told) : Type 0 where

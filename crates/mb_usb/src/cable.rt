@@ -1,9 +1,11 @@
 //! The reader of one cable.
 
-ghost use Rattle.std.specs.Prelude.{◌≡◌, ◌+◌, ◌*◌, ◌%◌, ◌<◌, ◌≤◌, ◌^◌, true, [], ℕ, List, length, OnSome, IfNone};
+ghost use Rattle.std.specs.Prelude.{◌≡◌, ◌+◌, ◌*◌, ◌%◌, ◌<◌, ◌≤◌, ◌^◌, true, [], ℕ, List, length, take, OnSome, IfSome, IfNone};
 ghost use Rattle.mb_stream.specs.Groups.{last_of};
 ghost use Rattle.mb_stream.specs.Told.{Known, at_end};
 ghost use Rattle.mb_din.specs.Turn.{answer};
+ghost use Rattle.mb_din.specs.Reader.{IsLongest};
+ghost use Rattle.mb_usb.specs.Under.{left_of};
 ghost use Rattle.mb_din.specs.State.{State, fresh};
 ghost use Rattle.mb_ports.specs.OnePort.{TellsOne, AllToldOne};
 ghost use Rattle.mb_usb.specs.Reading.{cable_payload};
@@ -64,6 +66,7 @@ impl CableReader {
         ensures some { OnSome result (answer result ≡ [] → ⊥) }
         ensures all_told { IfNone result (CableAllTold self.old input.old.now) }
         ensures end { self.new.packet.offset + length input.new.now ≡ self.old.packet.offset + length input.old.now }
+        ensures longest { IfSome result (IsLongest (take (left_of self.new.packet.under) input.new.now)) }
         ensures none { IfNone result (input.new.now ≡ []) }
 
         // A caller's loop ends by this.
@@ -106,6 +109,7 @@ fn read_cable<'a>(
     ensures all_told { IfNone result (AllToldOne (cable_so_far own) (CableHolds own packet.old din.old) input.old.now) }
     ensures behind { IsBehind packet.new din.new }
     ensures end { packet.new.offset + length input.new.now ≡ packet.old.offset + length input.old.now }
+    ensures longest { IfSome result (IsLongest (take (left_of packet.new.under) input.new.now)) }
     ensures none { IfNone result (input.new.now ≡ []) }
     ensures progress { OnSome result (2 * length input.new.now + owed_alone own packet.new din.new < 2 * length input.old.now + owed_alone own packet.old din.old) }
 {

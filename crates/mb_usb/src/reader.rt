@@ -1,10 +1,11 @@
 //! The reader of all cables.
 
-ghost use Rattle.std.specs.Prelude.{◌≡◌, ◌≢◌, ◌+◌, ◌*◌, ◌/◌, ◌%◌, ◌<◌, ◌^◌, None, [], ℕ, List, length, drop, OnSome, IfNone};
+ghost use Rattle.std.specs.Prelude.{◌≡◌, ◌≢◌, ◌+◌, ◌*◌, ◌/◌, ◌%◌, ◌<◌, ◌^◌, None, [], ℕ, List, length, take, drop, OnSome, IfSome, IfNone};
 ghost use Rattle.mb_din.specs.Turn.{answer};
+ghost use Rattle.mb_din.specs.Reader.{IsLongest};
 ghost use Rattle.mb_din.specs.State.{fresh};
 ghost use Rattle.mb_usb.specs.Under.{left_of, head_of};
-ghost use Rattle.mb_usb.specs.Hands.{Hands};
+ghost use Rattle.mb_usb.specs.Hands.{Hands, IsLongestOf};
 ghost use Rattle.mb_stream.specs.Groups.{last_of};
 ghost use Rattle.mb_stream.specs.Told.{at_end};
 ghost use Rattle.mb_ports.specs.Events.{Ported};
@@ -66,6 +67,7 @@ impl UsbReader {
         ensures some { OnSome result (port_answer result ≡ [] → ⊥) }
         ensures all_told { IfNone result (UsbAllTold self.old input.old.now) }
         ensures end { self.new.packet.offset + length input.new.now ≡ self.old.packet.offset + length input.old.now }
+        ensures longest { IfSome result (IsLongestOf (take (left_of self.new.packet.under) input.new.now)) }
         ensures none { IfNone result (input.new.now ≡ []) }
 
         // A caller's loop ends by this.
@@ -108,6 +110,7 @@ fn read<'a>(
     ensures all_told { IfNone result (AllTold all_cables_so_far (UsbHolds packet.old dins.old) input.old.now) }
     ensures behind { AreBehind packet.new dins.new }
     ensures end { packet.new.offset + length input.new.now ≡ packet.old.offset + length input.old.now }
+    ensures longest { IfSome result (IsLongestOf (take (left_of packet.new.under) input.new.now)) }
     ensures none { IfNone result (input.new.now ≡ []) }
     ensures progress { OnSome result (2 * length input.new.now + owed_of packet.new (reader_at dins.new (head_of packet.new.under / 16)) < 2 * length input.old.now + owed_of packet.old (reader_at dins.old (head_of packet.old.under / 16))) }
 {
@@ -149,6 +152,7 @@ fn carry_at<'a>(
     ensures others { (c : ℕ) → c ≢ port → reader_at dins.new c ≡ reader_at dins.old c }
     ensures behind { AreBehind packet.new dins.new }
     ensures some { OnSome result (answer result ≡ [] → ⊥) }
+    ensures longest { IfSome result (IsLongest (take (left_of packet.new.under) input.new.now)) }
     ensures none { IfNone result (input.new.now ≡ drop (left_of packet.old.under) input.old.now) }
     ensures end { packet.new.offset + length input.new.now ≡ packet.old.offset + length input.old.now }
     ensures progress { OnSome result (2 * length input.new.now + owed_of packet.new (reader_at dins.new (head_of packet.new.under / 16)) < 2 * length input.old.now + owed_of packet.old (reader_at dins.old (head_of packet.old.under / 16))) }

@@ -4,9 +4,10 @@ use Rattle.mb_stream.specs.Told.{Notes}
 use Rattle.mb_din.specs.Turn.{answer, told_by}
 use Rattle.mb_usb.specs.declared.under.Packet.{Packet}
 use Rattle.mb_usb.specs.Under.{left_of, is_of_cable}
-use Rattle.mb_usb.specs.State.{IsBehind}
+use Rattle.mb_usb.specs.State.{owed_alone}
 use Rattle.mb_usb.proofs.ReadLemmas.{shorter}
-use Rattle.mb_usb.proofs.OnlyCable.{begins, is-of, then-due, then-pass, then-carry, then-none, tells-literal, tolds, all_told-literal, pass-behind, undue-behind, carry-behind, falls}
+use Rattle.mb_usb.proofs.OnlyCable.{begins, is-of, then-due, then-pass, then-carry, then-none, tells-literal, tolds, all_told-literal, pass-behind, undue-behind, carry-behind, carry-owed, falls}
+use Rattle.mb_usb.proofs.Steps.{same-undue}
 use Rattle.mb_usb.proofs.cable.read_cable.Goals as goal
 
 pub bytes-init : goal.bytes-init
@@ -68,3 +69,11 @@ returns-in-Some-carry-clause-tells c =
     tells-literal c.args.own c.args.packet.now c.carry.new.packet c.args.din.now c.carry.new.din c.args.input.now.now c.carry.new.input.now _ (answer (Some c.in-Some-carry.seen)) (tolds (answer (Some c.in-Some-carry.seen)))
     (then-carry c.args.own c.args.packet.now c.bytes.packet c.take_due.new.self c.carry.new.packet c.args.din.now c.bytes.din c.carry.new.din c.args.input.now.now c.bytes.input.now c.in-Some-split_first.rest.now c.carry.new.input.now c.in-Some-split_first.byte.now (Some c.in-Some-carry.seen) c.bytes.invariant.tells
     (sym c.take_due.ensures.due ∙ c.in_default.is) c.take_due.ensures.told of_it (search rules) c.in-Some-carry.ensures.hands)
+
+pub returns-in-Some-carry-clause-progress : goal.returns-in-Some-carry-clause-progress
+returns-in-Some-carry-clause-progress c =
+    let of_it : is_of_cable c.args.own c.take_due.new.self.under ≡ true = sym c.is_of.ensures ∙ c.if-is_of.true in
+    let same = same-undue c.bytes.packet c.take_due.new.self (sym c.take_due.ensures.due ∙ c.in_default.is) c.take_due.ensures.told in
+    let owes : owed_alone c.args.own c.bytes.packet c.bytes.din ≡ owed_alone c.args.own c.take_due.new.self c.bytes.din = ap (λ (p : Packet). owed_alone c.args.own p c.bytes.din) same in
+    omega (arith, owes, c.bytes.invariant.owes,
+    carry-owed c.args.own c.take_due.new.self c.carry.new.packet c.bytes.din c.carry.new.din c.bytes.input.now c.carry.new.input.now (answer (Some c.in-Some-carry.seen)) c.in-Some-carry.ensures.hands (ap (λ (p : Packet). p.due) c.take_due.ensures.told) of_it c.in-Some-carry.ensures.progress)
