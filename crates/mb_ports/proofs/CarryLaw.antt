@@ -1,15 +1,13 @@
 -- The third step of a reader of packets: bytes of one port, which its byte-stream reader takes a front of. What that promises of the
 -- port's payload, all readers together promise of all ports.
-use Rattle.std.proofs.Common.{◌≡◌, ℕ, zero, suc, ◌+◌, ◌-◌, ◌<◌, ◌≤◌, ◌⊎◌, inl, inr, Bool, true, false, ◌==◌, Option, Some, None, List, [], ◌∷◌, ◌++◌, length, map, refl, sym, ◌∙◌, ap, ap₂, subst, arith, append_assoc, append-nil, length-append}
+use Rattle.std.proofs.Common.{◌≡◌, ℕ, ◌+◌, ◌-◌, ◌<◌, ◌≤◌, ◌⊎◌, inl, inr, false, ◌==◌, Some, List, [], ◌∷◌, ◌++◌, length, map, refl, sym, ◌∙◌, ap, ap₂, subst, arith, append_assoc, append-nil, length-append}
 use Rattle.std.proofs.lemmas.List.{append_cancel_left, append_cancel_right}
 use Rattle.std.proofs.lemmas.Bool.Decides.{nat_tests}
-use Rattle.mb_message.specs.declared.note.Note.{Note}
 use Rattle.mb_stream.specs.Payload.{Entry, heard_from}
 use Rattle.mb_stream.specs.Groups.{Group, last_of}
 use Rattle.mb_stream.specs.Told.{Told, Known}
 use Rattle.mb_stream.specs.Reading.{so_far}
 use Rattle.mb_stream.specs.Working.{RisesFrom, news_from}
-use Rattle.mb_din.specs.Reader as din
 use Rattle.mb_din.specs.Reader.{Stands, IsFront}
 use Rattle.mb_din.specs.State.{State}
 use Rattle.mb_din.proofs.Rises.{RisesFrom-heard, so_far-append}
@@ -18,7 +16,7 @@ use Rattle.mb_ports.specs.Machine.{Machine, remarked, events_from, events, under
 use Rattle.mb_ports.specs.Reader.{PortsStand, Holds, all_known, bare, Tells, NextSays}
 use Rattle.mb_ports.proofs.PortsLaw.{EventsRise-front, groups_after, ports_news-append, ports_so_far-append, last_groups, last_groups-port}
 use Rattle.mb_ports.proofs.MachineLaw.{events_from-append, under_from-append, LowPorts, rise-notes, events-rise, carried_run, port_payload-append, port_payload-own, port_payload-other, ports_news-run, steady-first, steady-events, steady-quiet}
-use Rattle.mb_ports.proofs.ReaderLaw.{whole, AheadAt, stands-ahead, not-ahead, front-rest, events-more, known-more, map-nil, every-stands}
+use Rattle.mb_ports.proofs.ReaderLaw.{whole, AheadAt, stands-ahead, not-ahead, front-rest, events-more, known-more, every-stands}
 
 map-append : {A B : Type 0} (f : A → B) (xs ys : List A) → map f (xs ++ ys) ≡ map f xs ++ map f ys
 map-append f [] ys = refl

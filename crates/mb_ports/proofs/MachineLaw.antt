@@ -1,15 +1,15 @@
 -- The events of a machine: more bytes, the order of offsets, and the bytes of one port side by side.
-use Rattle.std.proofs.Common.{◌≡◌, ℕ, zero, suc, ◌+◌, ◌-◌, ◌<◌, ◌≤◌, ◌⊎◌, inl, inr, Bool, true, false, ◌==◌, if◌then◌else◌, Option, Some, None, List, [], ◌∷◌, ◌++◌, length, map, refl, sym, ◌∙◌, ap, ap₂, subst, arith, append_assoc, append-nil}
+use Rattle.std.proofs.Common.{◌≡◌, ℕ, zero, suc, ◌+◌, ◌-◌, ◌<◌, ◌≤◌, Bool, true, false, ◌==◌, if◌then◌else◌, Option, Some, None, List, [], ◌∷◌, ◌++◌, length, map, refl, sym, ◌∙◌, ap, subst, arith, append_assoc, append-nil}
 use Rattle.std.proofs.lemmas.Bool.{eq-eqb}
 use Rattle.mb_message.specs.declared.note.Note.{Note}
-use Rattle.mb_stream.specs.Payload.{Spot, Entry, Heard, heard_from}
+use Rattle.mb_stream.specs.Payload.{Spot, Heard, heard_from}
 use Rattle.mb_stream.specs.Groups.{Group}
 use Rattle.mb_stream.specs.Told.{Known}
 use Rattle.mb_stream.specs.Working.{news, behind, news_from}
 use Rattle.mb_stream.proofs.OrderLemmas.{Climb}
 use Rattle.mb_stream.proofs.NewsLaw.{news-climbs}
 use Rattle.mb_ports.specs.Events.{Event, Carried, Remarked, port_payload, Ported, ported, unported, one_more, ports_news, EventsRise}
-use Rattle.mb_ports.specs.Machine.{Machine, remark, remarked, carried_by, spot, byte_events, events_from, events, under_from, due_after, Steady}
+use Rattle.mb_ports.specs.Machine.{Machine, remarked, carried_by, spot, byte_events, events_from, under_from, due_after, Steady}
 use Rattle.mb_ports.proofs.PortsLaw.{EventsRise-less}
 
 next_offset : (a n : ℕ) → a + 1 + n ≡ a + suc n

@@ -1,9 +1,8 @@
 -- A reader of one port alone, from the law of several: with one port, what was told is a front of what is known if its parts
 -- without their ports are.
-use Rattle.std.proofs.Common.{◌≡◌, ℕ, zero, suc, ◌+◌, ◌-◌, ◌<◌, ◌≤◌, Bool, true, false, if◌then◌else◌, Option, Some, None, List, [], ◌∷◌, ◌++◌, length, map, refl, sym, ◌∙◌, ap, ap₂, subst, arith, append_assoc, append-nil}
+use Rattle.std.proofs.Common.{◌≡◌, ℕ, ◌+◌, ◌-◌, ◌<◌, Bool, true, false, if◌then◌else◌, Option, Some, List, [], ◌∷◌, ◌++◌, length, map, refl, sym, ◌∙◌, ap, ap₂, subst, arith, append_assoc, append-nil}
 use Rattle.std.proofs.lemmas.List.{append_cancel_left}
 use Rattle.mb_message.specs.declared.note.Note.{Note}
-use Rattle.mb_stream.specs.Payload.{Entry}
 use Rattle.mb_stream.specs.Told.{Told, Known}
 use Rattle.mb_stream.specs.Order.{not_after, put_in, in_order}
 use Rattle.mb_stream.specs.Reading.{payload_told, so_far}
@@ -11,8 +10,8 @@ use Rattle.mb_din.specs.Reader.{Stands, IsFront}
 use Rattle.mb_din.specs.State.{State}
 use Rattle.mb_ports.specs.Events.{Event, port_payload, unit_notes, Ported, ported, unported, known_of, ports_so_far, ports_news, EventsRise}
 use Rattle.mb_ports.specs.Machine.{Machine, remarked, events_from, events, under_from}
-use Rattle.mb_ports.specs.Reader.{Whole, PortsStand, Holds, all_known, bare, Goes, Tells, AllTold}
-use Rattle.mb_ports.specs.OnePort.{one_known, HoldsOne, GoesOne, TellsOne, AllToldOne}
+use Rattle.mb_ports.specs.Reader.{Whole, Holds, all_known, bare, Goes, Tells, AllTold}
+use Rattle.mb_ports.specs.OnePort.{one_known, HoldsOne, TellsOne, AllToldOne}
 use Rattle.mb_ports.proofs.PortsLaw.{rises-back, last_groups, ports_so_far-append}
 use Rattle.mb_ports.proofs.MachineLaw.{events_from-append, LowPorts, events-rise, Headed, of_note, of_port, news-head}
 use Rattle.mb_ports.proofs.ReaderLaw.{whole, AheadAt, stands-ahead, events-more, map-nil, finish-stands}

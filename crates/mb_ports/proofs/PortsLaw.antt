@@ -3,7 +3,7 @@
 --   ports_law              the law
 --   groups_after gs es     the last group of each port behind events
 --   ports_so_far-append    the readings of more events
-use Rattle.std.proofs.Common.{◌≡◌, ℕ, zero, suc, ◌+◌, ◌<◌, ◌≤◌, ◌⊎◌, inl, inr, Bool, true, false, ◌==◌, if◌then◌else◌, List, [], ◌∷◌, ◌++◌, map, flat_map, refl, sym, ◌∙◌, ap, ap₂, subst, arith, append_assoc}
+use Rattle.std.proofs.Common.{◌≡◌, ℕ, zero, suc, ◌+◌, ◌<◌, ◌≤◌, inl, inr, Bool, true, false, ◌==◌, if◌then◌else◌, List, [], ◌∷◌, ◌++◌, map, flat_map, refl, sym, ◌∙◌, ap, ap₂, subst, arith, append_assoc}
 use Rattle.std.proofs.lemmas.Bool.{eq-eqb}
 use Rattle.std.proofs.lemmas.Bool.Decides.{nat_tests}
 use Rattle.std.proofs.lemmas.List.Concat.{flat_map-append}
@@ -12,10 +12,9 @@ use Rattle.mb_stream.specs.Payload.{Spot, Entry, Heard, Silent, realtime}
 use Rattle.mb_stream.specs.Groups.{Group, no_group, longer, begun, last_of}
 use Rattle.mb_stream.specs.Told.{Known, realtime_known, ended, status_told}
 use Rattle.mb_stream.specs.Order.{not_after, put_in, in_order}
-use Rattle.mb_stream.specs.Reading.{payload_told}
 use Rattle.mb_stream.specs.Working.{news, behind, data_news, group_after, RisesFrom}
 use Rattle.mb_stream.proofs.OrderLemmas.{Each, Each-append, Each-implies, Each-in_order, Late, Climb, in_order-climb, put_in-first}
-use Rattle.mb_stream.proofs.NewsLaw.{later, later_by, told-from, later-From, realtime-From, news-climbs, From, From-low, last_of-after}
+use Rattle.mb_stream.proofs.NewsLaw.{later, later_by, told-from, later-From, realtime-From, news-climbs, From, last_of-after}
 use Rattle.mb_ports.specs.Events.{Event, Carried, Remarked, port_payload, unit_notes, Ported, ported, unported, known_of, below_from, below, port_told, ports_so_far, one_more, ports_news, EventsRise}
 
 -- What a port tells, beyond what the group under way has told.

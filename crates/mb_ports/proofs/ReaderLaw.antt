@@ -4,24 +4,21 @@
 --   tells-due, tells-pass        the two steps
 --   all_told-none                where the input is used up, all is told
 --   finish-stands, start-holds   the end, and the beginning
-use Rattle.std.proofs.Common.{◌≡◌, ℕ, zero, suc, ◌+◌, ◌-◌, ◌<◌, ◌≤◌, ◌⊎◌, inl, inr, Bool, true, false, ◌==◌, Option, Some, None, List, [], ◌∷◌, ◌++◌, length, map, refl, sym, ◌∙◌, ap, ap₂, subst, arith, append_assoc, append-nil, length-append}
-use Rattle.std.proofs.lemmas.List.{append_cancel_left, append_cancel_right}
+use Rattle.std.proofs.Common.{◌≡◌, ℕ, ◌+◌, ◌-◌, ◌<◌, inl, inr, Bool, true, false, ◌==◌, Option, Some, None, List, [], ◌∷◌, ◌++◌, length, map, refl, sym, ◌∙◌, ap, ap₂, subst, arith, append_assoc, append-nil, length-append}
+use Rattle.std.proofs.lemmas.List.{append_cancel_left}
 use Rattle.std.proofs.lemmas.Bool.Decides.{nat_tests}
 use Rattle.mb_message.specs.declared.note.Note.{Note}
-use Rattle.mb_stream.specs.Payload.{Spot, Entry, Heard, heard_from}
-use Rattle.mb_stream.specs.Groups.{Group, no_group, last_of}
+use Rattle.mb_stream.specs.Payload.{Entry}
+use Rattle.mb_stream.specs.Groups.{Group, last_of}
 use Rattle.mb_stream.specs.Told.{Told, Notes, Known}
 use Rattle.mb_stream.specs.Reading.{so_far}
-use Rattle.mb_stream.specs.Working.{news_from}
-use Rattle.mb_din.specs.Reader as din
 use Rattle.mb_din.specs.Reader.{Stands, IsFront, IsAhead}
 use Rattle.mb_din.specs.State.{State, state_of}
-use Rattle.mb_din.proofs.Rises.{RisesFrom-heard, so_far-append}
-use Rattle.mb_ports.specs.Events.{Event, Carried, Remarked, port_payload, Ported, ported, unported, ports_so_far, ports_news, EventsRise}
-use Rattle.mb_ports.specs.Machine.{Machine, remark, remarked, carried_by, spot, byte_events, events_from, events, under_from, due_after, Steady}
-use Rattle.mb_ports.specs.Reader.{Whole, PortsStand, Holds, all_known, bare, Goes, Tells, AllTold, NextSays}
-use Rattle.mb_ports.proofs.PortsLaw.{EventsRise-front, last_groups, ports_law, ports_so_far-append, last_groups-port}
-use Rattle.mb_ports.proofs.MachineLaw.{events_from-append, under_from-append, LowPorts, rise-notes, events-rise, Headed, of_note, of_port, news-head, carried_run, port_payload-append, port_payload-notes, port_payload-own, port_payload-other, ports_news-run, steady-first, steady-events, steady-quiet}
+use Rattle.mb_ports.specs.Events.{Event, Remarked, port_payload, Ported, ported, unported, ports_so_far, ports_news, EventsRise}
+use Rattle.mb_ports.specs.Machine.{Machine, remark, remarked, carried_by, spot, events_from, events, under_from}
+use Rattle.mb_ports.specs.Reader.{Whole, PortsStand, Holds, all_known, bare, Goes, Tells, AllTold}
+use Rattle.mb_ports.proofs.PortsLaw.{EventsRise-front, last_groups, ports_law, ports_so_far-append}
+use Rattle.mb_ports.proofs.MachineLaw.{events_from-append, under_from-append, LowPorts, rise-notes, events-rise, Headed, of_note, of_port, news-head, port_payload-append, port_payload-notes}
 
 abbrev pub whole : {U : Type 0} → (offset : ℕ) → U → List Note → (ℕ → State) → Whole U
 whole o u due readers = record { offset = o; under = u; due = due; readers = readers }

@@ -6,7 +6,7 @@
 --   Holds m n now bs told      it took these bytes and told this
 --   Goes known ..              what a call took, what it answered, and that the reader holds for both
 --   NextSays ..                what a byte-stream reader's call promises of any payload
-use Rattle.std.specs.Prelude.{◌≡◌, ℕ, ◌+◌, ◌-◌, ◌<◌, List, [], ◌∷◌, ◌++◌, map, length, Option, ◌⊎◌}
+use Rattle.std.specs.Prelude.{◌≡◌, ℕ, ◌+◌, ◌-◌, ◌<◌, List, [], ◌++◌, map, length, Option, ◌⊎◌}
 use Rattle.mb_message.specs.declared.note.Note.{Note}
 use Rattle.mb_stream.specs.Payload.{Entry, heard_from}
 use Rattle.mb_stream.specs.Told.{Told, Known}

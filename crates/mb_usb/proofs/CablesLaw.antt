@@ -1,6 +1,6 @@
 -- The events of packets byte by byte are the literal cuts: what each cable carries, and the notes on packets. The bytes of a packet
 -- that its cable carries stand side by side.
-use Rattle.std.proofs.Common.{◌≡◌, ℕ, zero, suc, ◌+◌, ◌-◌, ◌*◌, ◌/◌, ◌%◌, ◌<◌, ◌≤◌, Bool, true, false, ◌||◌, ◌==◌, nat_lt, nat_le, if◌then◌else◌, Option, Some, None, List, [], ◌∷◌, ◌++◌, map, flat_map, take, length, refl, sym, ◌∙◌, ap, ap₂, subst, arith, append_assoc, append-nil}
+use Rattle.std.proofs.Common.{◌≡◌, ℕ, zero, suc, ◌+◌, ◌-◌, ◌/◌, ◌%◌, ◌<◌, ◌≤◌, Bool, true, false, ◌||◌, ◌==◌, nat_lt, nat_le, if◌then◌else◌, Option, Some, None, List, [], ◌∷◌, ◌++◌, map, flat_map, take, refl, sym, ◌∙◌, ap, ap₂, arith, append_assoc, append-nil}
 use Rattle.std.proofs.lemmas.Bool.{ltb-true}
 use Rattle.std.proofs.lemmas.Bool.Decides.{nat_tests}
 use Rattle.mb_message.specs.declared.note.Note.{Note}
@@ -9,17 +9,18 @@ use Rattle.mb_stream.specs.Payload.{Spot, Entry, Heard, heard_from}
 use Rattle.mb_stream.specs.Told.{Notes, Known}
 use Rattle.mb_stream.specs.Order.{in_order}
 use Rattle.mb_stream.specs.Reading.{payload_told}
-use Rattle.mb_ports.specs.Events.{Event, Carried, Remarked, port_payload, unit_notes, Ported, ported, unported, known_of, below_from, below, port_told, ports_so_far}
+use Rattle.mb_din.specs.Reader.{IsFront}
+use Rattle.mb_ports.specs.Events.{Event, port_payload, unit_notes, Ported, ported, unported, known_of, below_from, port_told}
 use Rattle.mb_ports.specs.Machine.{Machine, remark, remarked, carried_by, spot, byte_events, events_from, events, Steady}
 use Rattle.mb_ports.specs.Reader.{all_known}
 use Rattle.mb_ports.specs.OnePort.{one_known}
 use Rattle.mb_ports.proofs.MachineLaw.{LowPorts, port_payload-append, port_payload-notes}
-use Rattle.mb_ports.proofs.OnePortLaw.{one_so_far}
+use Rattle.mb_ports.proofs.OnePortLaw.{one_so_far, one-stays}
 use Rattle.mb_usb.specs.declared.under.Under.{Under}
 use Rattle.mb_usb.specs.declared.under.Under.TheVariants.{Between, One, Two, Three}
-use Rattle.mb_usb.specs.Reading.{Packet, cable_of, cin_of, packets_from, packets, used, carried, cable_payload, suits_cin, suits_rest, suits_packet, unit_note, usb_told}
+use Rattle.mb_usb.specs.Reading.{Packet, cable_of, packets_from, packets, used, carried, cable_payload, suits_cin, unit_note}
 use Rattle.mb_usb.specs.Under.{under_after, left_of, head_of, note_at}
-use Rattle.mb_usb.specs.Cables.{of_cable, of_packets, all_cables_so_far, cable_so_far, listed, port_by, usb, each_cable, only_cable}
+use Rattle.mb_usb.specs.Cables.{of_cable, all_cables_so_far, cable_so_far, listed, port_by, usb, each_cable, only_cable}
 
 -- A packet uses none of its other bytes, or one, two or three.
 data Use : ℕ → Type 0 where
@@ -312,3 +313,9 @@ pub only_law : (c : ℕ) (bytes : List ℕ) → one_known (usb (only_cable c)) b
 only_law c bytes =
     one_so_far (events (usb (only_cable c)) bytes) ∙
     ap₂ (λ (es : List Entry) (ns : List Known). in_order (λ k. k) (payload_told es ++ ns)) (only-payload c bytes) (notes-from (only_cable c) 0 bytes)
+
+-- what is known of some bytes stays known
+pub stays : (c : ℕ) (bytes more : List ℕ) → IsFront (cable_so_far c bytes) (cable_so_far c (bytes ++ more))
+stays c bytes more =
+    let f : IsFront (one_known (usb (only_cable c)) bytes) (one_known (usb (only_cable c)) (bytes ++ more)) = one-stays (usb (only_cable c)) (only_low c) bytes more in
+    (f.0, sym (only_law c (bytes ++ more)) ∙ (f.1 ∙ ap (λ ks. ks ++ f.0) (only_law c bytes)))

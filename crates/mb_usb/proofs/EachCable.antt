@@ -1,10 +1,10 @@
 -- The steps of the reader of all cables, behind what its loop did before.
-use Rattle.std.proofs.Common.{◌≡◌, ℕ, ◌/◌, ◌<◌, ◌≢◌, Bool, true, false, ◌==◌, nat_lt, if◌then◌else◌, Option, Some, None, List, [], ◌∷◌, ◌++◌, map, refl, sym, ◌∙◌, ap, subst}
+use Rattle.std.proofs.Common.{◌≡◌, ℕ, ◌/◌, ◌<◌, ◌≢◌, Bool, true, false, ◌==◌, if◌then◌else◌, Option, Some, None, List, [], ◌∷◌, map, refl, sym, ap, subst}
 use Rattle.std.proofs.lemmas.Bool.{lt-ltb, eqb-true}
 use Rattle.mb_message.specs.declared.note.Note.{Note}
 use Rattle.mb_message.specs.declared.event.Seen.{Seen}
-use Rattle.mb_message.specs.declared.event.PortSeen.TheVariants.{Port, Unit}
-use Rattle.mb_stream.specs.Told.{Told, Notes}
+use Rattle.mb_message.specs.declared.event.PortSeen.TheVariants.{Unit}
+use Rattle.mb_stream.specs.Told.{Told}
 use Rattle.mb_din.specs.State.{State}
 use Rattle.mb_din.specs.Turn.{answer}
 use Rattle.mb_ports.specs.Events.{Ported}

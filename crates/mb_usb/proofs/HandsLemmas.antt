@@ -1,7 +1,7 @@
 -- Bytes of the packet under way, handed to their cable's reader: which they are, and what is left.
-use Rattle.std.proofs.Common.{◌≡◌, ℕ, zero, suc, ◌+◌, ◌-◌, ◌<◌, ◌≤◌, ◌⊎◌, inl, inr, min, List, [], ◌∷◌, ◌++◌, length, take, drop, refl, sym, ◌∙◌, ap, ap₂, subst, arith, append_assoc, length-append}
+use Rattle.std.proofs.Common.{◌≡◌, ℕ, zero, suc, ◌+◌, ◌-◌, ◌≤◌, inl, inr, min, List, [], ◌∷◌, ◌++◌, length, take, drop, refl, sym, ◌∙◌, ap, ap₂, subst, arith, append_assoc, length-append}
 use Rattle.std.proofs.Math.Seq.{take-length, drop-length, take-append_seam, drop-append_seam}
-use Rattle.std.proofs.lemmas.List.{take-append-drop, append-nil}
+use Rattle.std.proofs.lemmas.List.{take-append-drop}
 use Rattle.std.proofs.lemmas.Bool.{cases_lt}
 use Rattle.mb_stream.specs.Payload.{Entry}
 use Rattle.mb_stream.specs.Told.{Told}
@@ -53,17 +53,19 @@ hands-kept was now reader put next input piece kept taken behind n answer p at f
     let all : input ≡ front.0 ++ (kept ++ drop left input) =
     sym (take-append-drop left input) ∙ (ap (λ z. z ++ drop left input) (sym piece_is ∙ front.1) ∙ append_assoc front.0 kept (drop left input)) in
     let many : n ≡ length front.0 = omega (arith, ap length front.1, length-append front.0 kept) in
-    let taken_is : taken ≡ front.0 = t ∙ (ap₂ take many all ∙ take-append_seam front.0 (kept ++ drop left input)) in
-    (record {
-      taken = front.0;
-      kept = kept;
-      piece = sym piece_is ∙ front.1;
-      left_is = l ∙ (ap₂ drop many all ∙ drop-append_seam front.0 (kept ++ drop left input));
-      packet = passed ∙ ap (packet_behind was) taken_is;
-      offset = front.2 ∙ ap (λ (s : State). s.offset + length front.0) at;
-      stays = λ es s. subst (λ z. Stands z es (so_far es)) at (stays es s);
-      says = subst (λ z. NextSays z next (piece_of was input) kept answer) at (subst (λ z. NextSays put next z kept answer) piece_is says);
-    }, refl)
+    let taken_is : taken ≡ front.0 = t ∙ (ap₂ take many all ∙ take-append_seam front.0 (kept ++ drop left input)) in (
+      record {
+        taken = front.0;
+        kept = kept;
+        piece = sym piece_is ∙ front.1;
+        left_is = l ∙ (ap₂ drop many all ∙ drop-append_seam front.0 (kept ++ drop left input));
+        packet = passed ∙ ap (packet_behind was) taken_is;
+        offset = front.2 ∙ ap (λ (s : State). s.offset + length front.0) at;
+        stays = λ es s. subst (λ z. Stands z es (so_far es)) at (stays es s);
+        says = subst (λ z. NextSays z next (piece_of was input) kept answer) at (subst (λ z. NextSays put next z kept answer) piece_is says);
+      },
+      refl,
+    )
 
 pub hands-end : (was now : Packet) (reader next : State) (input left : List ℕ) (answer : List Told) → Hands was now reader next input left answer →
     now.offset + length left ≡ was.offset + length input

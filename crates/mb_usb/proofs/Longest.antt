@@ -1,5 +1,5 @@
 -- A run is the longest that stands side by side: what is left of the packet's bytes, and stands in the input, begins with no data.
-use Rattle.std.proofs.Common.{◌≡◌, ℕ, zero, suc, ◌+◌, ◌-◌, ◌%◌, ◌<◌, ◌≤◌, ◌⊎◌, inl, inr, Bool, true, false, ◌||◌, ◌==◌, nat_le, if◌then◌else◌, Option, Some, None, IfSome, min, List, [], ◌∷◌, ◌++◌, length, take, drop, refl, sym, ◌∙◌, ap, ap₂, subst, arith, length-append}
+use Rattle.std.proofs.Common.{◌≡◌, ℕ, ◌+◌, ◌-◌, ◌%◌, ◌<◌, ◌≤◌, inl, inr, Bool, true, false, ◌||◌, ◌==◌, nat_le, if◌then◌else◌, Option, IfSome, min, List, [], ◌∷◌, ◌++◌, length, take, drop, refl, sym, ◌∙◌, ap, ap₂, subst, arith, length-append}
 use Rattle.std.proofs.Math.Seq.{take-append_seam}
 use Rattle.std.proofs.lemmas.List.{append-nil, length-take}
 use Rattle.std.proofs.lemmas.Bool.{cases_lt}
@@ -13,7 +13,7 @@ use Rattle.mb_usb.specs.declared.under.Under.TheVariants.{Between, One, Two, Thr
 use Rattle.mb_usb.specs.declared.under.Packet.{Packet}
 use Rattle.mb_usb.specs.Reading.{used}
 use Rattle.mb_usb.specs.Under.{left_of, under_after, packet_after, packet_behind}
-use Rattle.mb_usb.specs.Hands.{Hands, piece_of}
+use Rattle.mb_usb.specs.Hands.{Hands}
 use Rattle.mb_usb.proofs.HandsLemmas.{take-all, drop-all}
 
 used-three : (n : ℕ) → used n ≤ 3

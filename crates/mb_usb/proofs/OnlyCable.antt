@@ -12,11 +12,10 @@ use Rattle.mb_din.specs.Reader.{Stands}
 use Rattle.mb_din.specs.State as din
 use Rattle.mb_din.specs.State.{State}
 use Rattle.mb_din.specs.Turn.{answer}
-use Rattle.mb_ports.specs.Events.{Ported, known_of, port_payload}
-use Rattle.mb_ports.specs.Machine.{events}
-use Rattle.mb_ports.specs.Reader.{Holds, all_known, Tells, AllTold}
-use Rattle.mb_ports.specs.OnePort.{one_known, HoldsOne, GoesOne, TellsOne, AllToldOne}
-use Rattle.mb_ports.proofs.ReaderLaw.{tells-refl, tells-trans, start-holds, finish-stands}
+use Rattle.mb_ports.specs.Events.{Ported}
+use Rattle.mb_ports.specs.Reader.{Holds, all_known, Tells}
+use Rattle.mb_ports.specs.OnePort.{one_known, GoesOne, TellsOne, AllToldOne}
+use Rattle.mb_ports.proofs.ReaderLaw.{tells-refl, tells-trans, start-holds}
 use Rattle.mb_ports.proofs.OnePortLaw.{tells-one, all_told-one, finish-one}
 use Rattle.mb_usb.specs.declared.under.Under.{Under}
 use Rattle.mb_usb.specs.declared.under.Under.TheVariants.{Between}
@@ -25,7 +24,7 @@ use Rattle.mb_usb.specs.Reading.{cable_payload}
 use Rattle.mb_usb.specs.Under.{left_of, head_of, is_of_cable, taken_of, packet_after, packet_behind, is_rested}
 use Rattle.mb_usb.specs.Hands.{Hands}
 use Rattle.mb_usb.specs.State.{CableState, IsBehind, owed_by, owed_alone}
-use Rattle.mb_usb.specs.Cables.{cable_so_far, listed, port_by, usb, only_cable, whole_of, CableHolds, CableStands, CableTells, CableAllTold}
+use Rattle.mb_usb.specs.Cables.{cable_so_far, port_by, usb, only_cable, whole_of, CableHolds, CableStands, CableTells, CableAllTold}
 use Rattle.mb_usb.proofs.CablesLaw.{only_low, only_law, only-payload}
 use Rattle.mb_usb.proofs.Steps.{same-undue, step-due, step-pass, step-carry, step-none}
 use Rattle.mb_usb.proofs.HandsLemmas.{packet_behind-offset, hands-end}

@@ -1,8 +1,7 @@
 -- What a call keeps true of the packets and of each cable's reader, and by what callers' loops end.
-use Rattle.std.proofs.Common.{◌≡◌, ℕ, zero, suc, ◌+◌, ◌*◌, ◌/◌, ◌%◌, ◌<◌, ◌≤◌, ◌≢◌, Bool, true, false, ◌||◌, ◌==◌, nat_le, if◌then◌else◌, Option, Some, None, is_none, List, [], ◌∷◌, ◌++◌, length, set, drop, get_or, refl, sym, ◌∙◌, ap, ap₂, subst, arith, length-append}
+use Rattle.std.proofs.Common.{◌≡◌, ℕ, ◌+◌, ◌*◌, ◌/◌, ◌%◌, ◌<◌, ◌≤◌, ◌≢◌, Bool, true, false, ◌||◌, ◌==◌, nat_le, if◌then◌else◌, Option, Some, None, is_none, List, [], ◌∷◌, length, set, drop, get_or, refl, sym, ◌∙◌, ap, ap₂, subst, arith}
 use Rattle.std.proofs.lemmas.List.{get_or-set_same, get_or-set_other, get_or_default, length-drop}
 use Rattle.std.specs.Prelude.{OnSome}
-use Rattle.std.proofs.lemmas.Bool.{or_right}
 use Rattle.std.proofs.lemmas.Bool.Decides.{nat_tests}
 use Rattle.mb_message.specs.declared.note.Note.{Note}
 use Rattle.mb_stream.specs.Told.{Told}
@@ -13,7 +12,6 @@ use Rattle.mb_din.specs.declared.progress.Progress.TheVariants.{Idle, Running, B
 use Rattle.mb_usb.specs.declared.under.Under.{Under}
 use Rattle.mb_usb.specs.declared.under.Under.TheVariants.{Between, One, Two, Three}
 use Rattle.mb_usb.specs.declared.under.Packet.{Packet}
-use Rattle.mb_usb.specs.Reading.{used}
 use Rattle.mb_usb.specs.Under.{left_of, head_of, note_at, under_after, packet_after, packet_behind, is_rested}
 use Rattle.mb_usb.specs.Hands.{Hands}
 use Rattle.mb_usb.specs.State.{reader_at, owed_by, owed_of, AreBehind}

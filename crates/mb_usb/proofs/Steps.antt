@@ -1,20 +1,18 @@
 -- The steps of the readers of USB packets, by the law of readers of packets of any kind.
-use Rattle.std.proofs.Common.{◌≡◌, ℕ, zero, suc, ◌+◌, ◌-◌, ◌/◌, ◌<◌, ◌≤◌, ◌≢◌, Bool, true, false, ◌==◌, if◌then◌else◌, Option, Some, None, min, List, [], ◌∷◌, ◌++◌, length, map, take, drop, refl, sym, ◌∙◌, ap, ap₂, subst, arith, length-append}
+use Rattle.std.proofs.Common.{◌≡◌, ℕ, zero, suc, ◌+◌, ◌/◌, ◌<◌, ◌≢◌, Option, Some, None, List, [], ◌∷◌, ◌++◌, length, map, take, drop, refl, sym, ◌∙◌, ap, ap₂, subst, arith}
 use Rattle.std.proofs.lemmas.List.{take-append-drop, length-take}
-use Rattle.std.proofs.lemmas.Bool.Decides.{nat_tests}
 use Rattle.mb_message.specs.declared.note.Note.{Note}
 use Rattle.mb_stream.specs.Told.{Told, Notes}
-use Rattle.mb_din.specs.Reader.{IsFront}
 use Rattle.mb_din.specs.State.{State}
 use Rattle.mb_ports.specs.Events.{Ported}
-use Rattle.mb_ports.specs.Machine.{Machine, under_from, due_after}
+use Rattle.mb_ports.specs.Machine.{under_from, due_after}
 use Rattle.mb_ports.specs.Reader.{Whole, Holds, all_known, Goes, Tells, AllTold}
 use Rattle.mb_ports.proofs.MachineLaw.{LowPorts}
 use Rattle.mb_ports.proofs.ReaderLaw.{whole, tells-due, tells-pass, all_told-none}
 use Rattle.mb_ports.proofs.CarryLaw.{Call, tells-carry}
 use Rattle.mb_usb.specs.declared.under.Under.{Under}
 use Rattle.mb_usb.specs.declared.under.Packet.{Packet}
-use Rattle.mb_usb.specs.Under.{under_after, left_of, head_of, note_at, packet_after, packet_behind}
+use Rattle.mb_usb.specs.Under.{left_of, head_of, packet_after, packet_behind}
 use Rattle.mb_usb.specs.Hands.{Hands, piece_of}
 use Rattle.mb_usb.specs.Cables.{listed, port_by, usb, whole_of}
 use Rattle.mb_usb.proofs.HandsLemmas.{packet_behind-offset}

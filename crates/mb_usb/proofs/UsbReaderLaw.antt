@@ -1,5 +1,5 @@
 -- The public contract of the readers of USB packets, from the law of their packets.
-use Rattle.std.proofs.Common.{◌≡◌, ℕ, zero, suc, ◌+◌, ◌%◌, ◌<◌, Option, Some, None, IfNone, List, [], ◌∷◌, ◌++◌, length, get_or, refl, sym, ◌∙◌, ap, ap₂, subst, arith}
+use Rattle.std.proofs.Common.{◌≡◌, ℕ, ◌+◌, ◌%◌, ◌<◌, Option, None, IfNone, List, [], ◌∷◌, length, get_or, refl, sym, ◌∙◌, ap, subst, arith}
 use Rattle.std.proofs.lemmas.List.{get_or_default}
 use Rattle.mb_stream.specs.Payload.{Entry}
 use Rattle.mb_stream.specs.Groups.{last_of}
@@ -10,15 +10,14 @@ use Rattle.mb_din.specs.State as din
 use Rattle.mb_din.specs.State.{State}
 use Rattle.mb_ports.specs.Events.{Ported, port_payload}
 use Rattle.mb_ports.specs.Machine.{events, under_from}
-use Rattle.mb_ports.specs.Reader.{Whole, Tells, AllTold, all_known}
+use Rattle.mb_ports.specs.Reader.{Tells, AllTold, all_known}
 use Rattle.mb_ports.proofs.ReaderLaw.{start-holds, finish-stands}
-use Rattle.mb_usb.specs.declared.under.Under.{Under}
 use Rattle.mb_usb.specs.declared.under.Under.TheVariants.{Between}
 use Rattle.mb_usb.specs.declared.under.Packet.{Packet}
 use Rattle.mb_usb.specs.Reading.{cable_payload}
 use Rattle.mb_usb.specs.Under.{taken_of}
 use Rattle.mb_usb.specs.State.{UsbState, reader_at}
-use Rattle.mb_usb.specs.Cables.{all_cables_so_far, listed, usb, each_cable, whole_of, UsbHolds, UsbStands, UsbTells, UsbAllTold}
+use Rattle.mb_usb.specs.Cables.{all_cables_so_far, listed, usb, each_cable, UsbHolds, UsbStands, UsbTells, UsbAllTold}
 use Rattle.mb_usb.proofs.CablesLaw.{each_low, each_law, each-payload}
 
 abbrev pub usb_state : Packet → List State → UsbState

@@ -5,7 +5,7 @@
 --   reader_at rs c       what the reader of a cable keeps
 --   owed s               1 where something that takes no byte may be told next, else 0
 --   AreBehind p rs       no cable's reader stands beyond the packets
-use Rattle.std.specs.Prelude.{ℕ, ◌/◌, ◌<◌, ◌≤◌, ◌≡◌, true, List, Option, Some, None, ◌==◌, if◌then◌else◌, length, get_or}
+use Rattle.std.specs.Prelude.{ℕ, ◌/◌, ◌<◌, ◌≤◌, ◌≡◌, true, List, Option, Some, None, ◌==◌, if◌then◌else◌, get_or}
 use Rattle.mb_message.specs.declared.note.Note.{Note}
 use Rattle.mb_din.specs.State as din
 use Rattle.mb_din.specs.State.{State}

@@ -1,7 +1,7 @@
-use Rattle.std.proofs.Common.{◌≡◌, ◌≢◌, ◌/◌, ◌<◌, ◌∙◌, None, Some, true, [], ◌∷◌, ap, length, sym, refl, rules, arith}
+use Rattle.std.proofs.Common.{◌≡◌, ◌≢◌, ◌<◌, ◌∙◌, None, Some, true, [], ◌∷◌, ap, length, sym, refl, rules, arith}
 use Rattle.std.proofs.lemmas.List.{nil_from_length}
 use Rattle.mb_stream.specs.Told.{Notes}
-use Rattle.mb_din.specs.Turn.{answer, told_by}
+use Rattle.mb_din.specs.Turn.{answer}
 use Rattle.mb_usb.specs.declared.under.Packet.{Packet}
 use Rattle.mb_usb.specs.Under.{left_of, is_of_cable}
 use Rattle.mb_usb.specs.State.{owed_alone}
@@ -75,5 +75,9 @@ returns-in-Some-carry-clause-progress c =
     let of_it : is_of_cable c.args.own c.take_due.new.self.under ≡ true = sym c.is_of.ensures ∙ c.if-is_of.true in
     let same = same-undue c.bytes.packet c.take_due.new.self (sym c.take_due.ensures.due ∙ c.in_default.is) c.take_due.ensures.told in
     let owes : owed_alone c.args.own c.bytes.packet c.bytes.din ≡ owed_alone c.args.own c.take_due.new.self c.bytes.din = ap (λ (p : Packet). owed_alone c.args.own p c.bytes.din) same in
-    omega (arith, owes, c.bytes.invariant.owes,
-    carry-owed c.args.own c.take_due.new.self c.carry.new.packet c.bytes.din c.carry.new.din c.bytes.input.now c.carry.new.input.now (answer (Some c.in-Some-carry.seen)) c.in-Some-carry.ensures.hands (ap (λ (p : Packet). p.due) c.take_due.ensures.told) of_it c.in-Some-carry.ensures.progress)
+    omega (
+      arith,
+      owes,
+      c.bytes.invariant.owes,
+      carry-owed c.args.own c.take_due.new.self c.carry.new.packet c.bytes.din c.carry.new.din c.bytes.input.now c.carry.new.input.now (answer (Some c.in-Some-carry.seen)) c.in-Some-carry.ensures.hands (ap (λ (p : Packet). p.due) c.take_due.ensures.told) of_it c.in-Some-carry.ensures.progress,
+    )

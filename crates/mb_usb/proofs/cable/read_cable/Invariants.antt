@@ -1,5 +1,4 @@
 use Rattle.std.proofs.Common.{◌≡◌, ◌+◌, ◌*◌, ◌≤◌, [], length}
-use Rattle.mb_ports.specs.Reader.{Tells}
 use Rattle.mb_usb.specs.State.{IsBehind, owed_alone}
 use Rattle.mb_usb.proofs.OnlyCable.{OnlyTells}
 use Rattle.mb_usb.proofs.cable.read_cable.Given as goal

@@ -1,4 +1,4 @@
-use Rattle.std.proofs.Common.{◌≡◌, ◌≢◌, ◌/◌, ◌<◌, ◌∙◌, None, Some, ap, length, sym, refl, rules, arith}
+use Rattle.std.proofs.Common.{◌≢◌, ◌/◌, ◌<◌, ◌∙◌, None, Some, ap, length, sym, refl, rules, arith}
 use Rattle.std.proofs.lemmas.List.{nil_from_length}
 use Rattle.mb_usb.specs.declared.under.Packet.{Packet}
 use Rattle.mb_usb.specs.Under.{left_of, head_of}

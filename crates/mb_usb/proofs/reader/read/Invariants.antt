@@ -1,4 +1,4 @@
-use Rattle.std.proofs.Common.{◌≡◌, ◌+◌, ◌*◌, ◌/◌, ◌^◌, ◌<◌, ◌≤◌, [], length}
+use Rattle.std.proofs.Common.{◌≡◌, ◌+◌, ◌*◌, ◌/◌, ◌≤◌, [], length}
 use Rattle.mb_ports.specs.Reader.{Tells}
 use Rattle.mb_usb.specs.Cables.{all_cables_so_far, UsbHolds}
 use Rattle.mb_usb.specs.Under.{head_of}

@@ -1,4 +1,4 @@
-use Rattle.std.proofs.Common.{◌<◌, length, arith, rules}
+use Rattle.std.proofs.Common.{◌<◌, length, rules}
 use Rattle.mb_din.specs.Turn.{answer}
 use Rattle.mb_usb.proofs.UsbReaderLaw.{finish-told}
 use Rattle.mb_usb.proofs.reader.UsbReader.finish_port.Goals as goal

@@ -1,6 +1,5 @@
-use Rattle.std.proofs.Common.{◌≡◌, ap, subst, sym, of_calls}
-use Rattle.mb_din.specs.Reader.{Stands}
-use Rattle.mb_din.specs.State.{State, fresh}
+use Rattle.std.proofs.Common.{◌≡◌, of_calls}
+use Rattle.mb_din.specs.State.{fresh}
 use Rattle.mb_din.proofs.ReaderLaw.{new_stands}
 use Rattle.mb_usb.specs.State.{reader_at}
 use Rattle.mb_usb.proofs.UsbReaderLaw.{new-stands}
