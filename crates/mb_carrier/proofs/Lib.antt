@@ -1,4 +1,6 @@
+pub mod ChainLemmas
 pub mod FeedLemmas
 pub mod LineLemmas
 pub mod SpecLaws
+pub mod WordLemmas
 pub mod HopLemmas

@@ -2,6 +2,7 @@ pub mod Carrier
 pub mod Conversion
 pub mod DinLaws
 pub mod Hop
+pub mod Laws
 pub mod Line
 pub mod Port
 pub mod UsbLaws

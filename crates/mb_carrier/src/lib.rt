@@ -5,6 +5,7 @@ mod din;
 mod events;
 mod feed;
 mod hop;
+pub mod laws;
 mod reader;
 mod spec;
 mod usb;

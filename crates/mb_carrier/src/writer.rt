@@ -1,6 +1,6 @@
 //! A writer of whatever port a spec names.
 
-ghost use Rattle.std.specs.Prelude.{◌≡◌, [], IfOk};
+ghost use Rattle.std.specs.Prelude.{◌≡◌, [], IsOk, IfOk};
 ghost use Rattle.mb_carrier.specs.Port.{writer_spec, WriterStands};
 ghost use Rattle.mb_carrier.specs.Word.{IsSpec};
 ghost use Rattle.mb_carrier.specs.declared.spec.Spec.{Spec};
@@ -28,6 +28,7 @@ impl PortWriter {
     /// A writer of a spec's port. These carriers' writers take no memory.
     pub fn new(_alloc: Global, spec: Spec) -> Result<PortWriter, Memory>
         requires { IsSpec spec }
+        ensures memory { IsOk result }
         ensures ok { IfOk result (λ w. writer_spec w ≡ spec) }
         ensures stands { IfOk result (λ w. WriterStands w []) }
     {

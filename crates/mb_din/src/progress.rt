@@ -7,7 +7,7 @@ ghost use Rattle.mb_stream.specs.Told.{Marks, Notes};
 ghost use Rattle.mb_din.specs.State.{is_sound, lacks_one, is_running_progress, is_open_progress};
 ghost use Rattle.mb_din.specs.Turn.{answer, told_by, is_one, whole, first_step, data_step, status_step, told_before, told_at_end, end_told, realtime_told, data_front, data_rest};
 
-use mb_message::{Ev, Note, NoteKind, Rt, Seen, Short, data_len};
+use mb_message::{Ev, Note, NoteKind, Rt, Seen, Short};
 
 /// What the line so far has begun.
 #[derive(Clone, Copy, Debug, PartialEq, Eq)]
@@ -26,13 +26,6 @@ pub(crate) enum Progress {
     InSysex,
 }
 
-/// What a byte made of it, once it is taken.
-#[derive(Clone, Copy, Debug)]
-pub(crate) struct Step {
-    pub progress: Progress,
-    pub told: Option<Seen<'static>>,
-}
-
 #[inline(always)]
 fn note(kind: NoteKind, at: u64) -> Seen<'static>
     ensures { told_by result ≡ Notes at kind ∷ [] }
@@ -48,75 +41,84 @@ fn short(status: u8, data1: u8, data2: u8) -> Seen<'static>
     Seen::Ev(Ev::Short(Short::new(status, data1, data2).unwrap()))
 }
 
-/// Behind a whole message only a channel status runs on.
+/// Whether the messages of a status have one data byte.
 #[inline(always)]
-fn behind_whole(status: u8) -> Progress
-    requires { is_data status ≡ false }
-    ensures { result ≡ whole status }
+fn has_one(status: u8) -> bool
+    ensures { result ≡ is_one (data_length status) }
+{
+    (status >= 0xc0 && status < 0xe0) || status == 0xf1 || status == 0xf3
+}
+
+/// A message that is whole: behind it only a channel status runs on. Each branch makes the message, so that a compiler
+/// tests its status once.
+#[inline(always)]
+fn finish_message(
+    progress: &mut Progress,
+    status: u8,
+    data1: u8,
+    data2: u8,
+) -> Option<Seen<'static>>
+    requires { is_short status data1 data2 ≡ true }
+    ensures progress { progress.new ≡ whole status }
+    ensures told { answer result ≡ Marks (ShortSign status data1 data2) ∷ [] }
+    ensures some { OnSome result (answer result ≡ [] → ⊥) }
 {
     if status < 0xf0 {
-        Progress::Running(status)
+        *progress = Progress::Running(status);
+        Some(short(status, data1, data2))
     } else {
-        Progress::Idle
+        *progress = Progress::Idle;
+        Some(short(status, data1, data2))
     }
 }
 
 /// The first data byte of a message, which stands at `at`: a message of one data byte is whole with it.
 #[inline(always)]
-fn take_first(status: u8, whole: Progress, at: u64, byte: u8) -> Step
+fn take_first(progress: &mut Progress, status: u8, at: u64, byte: u8) -> Option<Seen<'static>>
     requires lacks { lacks_one (data_length status) None ≡ true }
-    requires sound { is_sound whole ≡ true }
     requires is_data { is_data byte ≡ true }
-    ensures progress { result.progress ≡ (first_step (is_one (data_length status)) whole status at byte).progress }
-    ensures told { answer result.told ≡ (first_step (is_one (data_length status)) whole status at byte).told }
-    ensures some { OnSome result.told (answer result.told ≡ [] → ⊥) }
-    ensures sound { is_sound result.progress ≡ true }
+    ensures progress { progress.new ≡ (first_step (is_one (data_length status)) (whole status) status at byte).progress }
+    ensures told { answer result ≡ (first_step (is_one (data_length status)) (whole status) status at byte).told }
+    ensures some { OnSome result (answer result ≡ [] → ⊥) }
+    ensures sound { is_sound progress.new ≡ true }
 {
-    match data_len(status) {
-        Some(1) => Step {
-            progress: whole,
-            told: Some(short(status, byte, 0)),
-        },
-        _ => Step {
-            progress: Progress::Begun {
-                status,
-                first: Some(byte),
-                at,
-            },
-            told: None,
-        },
+    if has_one(status) {
+        return finish_message(progress, status, byte, 0);
     }
+    *progress = Progress::Begun {
+        status,
+        first: Some(byte),
+        at,
+    };
+    None
 }
 
 /// A data byte outside SysEx, at its offset.
 #[inline(always)]
-pub(crate) fn take_data(progress: Progress, at: u64, byte: u8) -> Step
-    requires sound { is_sound progress ≡ true }
+pub(crate) fn take_data(progress: &mut Progress, at: u64, byte: u8) -> Option<Seen<'static>>
+    requires sound { is_sound progress.old ≡ true }
     requires is_data { is_data byte ≡ true }
-    ensures progress { result.progress ≡ (data_step progress at byte).progress }
-    ensures told { answer result.told ≡ (data_step progress at byte).told }
-    ensures some { OnSome result.told (answer result.told ≡ [] → ⊥) }
-    ensures sound { is_sound result.progress ≡ true }
+    ensures progress { progress.new ≡ (data_step progress.old at byte).progress }
+    ensures told { answer result ≡ (data_step progress.old at byte).told }
+    ensures some { OnSome result (answer result ≡ [] → ⊥) }
+    ensures sound { is_sound progress.new ≡ true }
 {
-    match progress {
-        Progress::Running(status) => take_first(status, progress, at, byte),
+    match *progress {
+        Progress::Running(status) => take_first(progress, status, at, byte),
         Progress::Begun {
             status,
             first: None,
             at: begun,
-        } => take_first(status, behind_whole(status), begun, byte),
+        } => take_first(progress, status, begun, byte),
         Progress::Begun {
             status,
             first: Some(first),
             ..
-        } => Step {
-            progress: behind_whole(status),
-            told: Some(short(status, first, byte)),
-        },
-        Progress::Idle | Progress::InSysex => Step {
-            progress: Progress::Idle,
-            told: Some(note(NoteKind::StrayData, at)),
-        },
+        } => finish_message(progress, status, first, byte),
+        Progress::Idle | Progress::InSysex => {
+            *progress = Progress::Idle;
+            Some(note(NoteKind::StrayData, at))
+        }
     }
 }
 
@@ -175,39 +177,40 @@ pub(crate) fn at_end(progress: Progress) -> Option<Seen<'static>>
 
 /// A status that made nothing known of earlier bytes, at its offset.
 #[inline(always)]
-pub(crate) fn take_status(progress: Progress, at: u64, byte: u8) -> Step
+pub(crate) fn take_status(progress: &mut Progress, at: u64, byte: u8) -> Option<Seen<'static>>
     requires is_status { is_data byte ≡ false }
     requires is_no_realtime { is_realtime byte ≡ false }
-    ensures progress { result.progress ≡ (status_step progress at byte).progress }
-    ensures told { answer result.told ≡ (status_step progress at byte).told }
-    ensures some { OnSome result.told (answer result.told ≡ [] → ⊥) }
-    ensures sound { is_sound result.progress ≡ true }
+    ensures progress { progress.new ≡ (status_step progress.old at byte).progress }
+    ensures told { answer result ≡ (status_step progress.old at byte).told }
+    ensures some { OnSome result (answer result ≡ [] → ⊥) }
+    ensures sound { is_sound progress.new ≡ true }
 {
+    let before = *progress;
     match byte {
-        0xf7 => Step {
-            progress: Progress::Idle,
-            told: Some(end(progress, at)),
-        },
-        0xf0 => Step {
-            progress: Progress::InSysex,
-            told: Some(Seen::Ev(Ev::Open)),
-        },
-        0xf6 => Step {
-            progress: Progress::Idle,
-            told: Some(short(0xf6, 0, 0)),
-        },
-        0xf4 | 0xf5 => Step {
-            progress: Progress::Idle,
-            told: Some(note(NoteKind::Undefined, at)),
-        },
-        _ => Step {
-            progress: Progress::Begun {
+        0xf7 => {
+            *progress = Progress::Idle;
+            Some(end(before, at))
+        }
+        0xf0 => {
+            *progress = Progress::InSysex;
+            Some(Seen::Ev(Ev::Open))
+        }
+        0xf6 => {
+            *progress = Progress::Idle;
+            Some(short(0xf6, 0, 0))
+        }
+        0xf4 | 0xf5 => {
+            *progress = Progress::Idle;
+            Some(note(NoteKind::Undefined, at))
+        }
+        _ => {
+            *progress = Progress::Begun {
                 status: byte,
                 first: None,
                 at,
-            },
-            told: None,
-        },
+            };
+            None
+        }
     }
 }
 

@@ -157,36 +157,33 @@ impl DinReader {
             if let Progress::InSysex = self.progress {
                 return Some(self.lend_run(input));
             }
-            let step = take_data(self.progress, self.offset, byte);
-            self.pass(step.progress);
             *input = rest;
-            return step.told;
+            let at = self.pass();
+            return take_data(&mut self.progress, at, byte);
         }
         if byte >= 0xf8 {
-            let seen = realtime(self.offset, byte);
-            self.pass(self.progress);
             *input = rest;
-            return Some(seen);
+            return Some(realtime(self.pass(), byte));
         }
         if let Some(seen) = before_status(self.progress, byte) {
             self.progress = Progress::Idle;
             return Some(seen);
         }
-        let step = take_status(self.progress, self.offset, byte);
-        self.pass(step.progress);
         *input = rest;
-        step.told
+        let at = self.pass();
+        take_status(&mut self.progress, at, byte)
     }
 
-    /// One byte was taken, and made this of what the line so far has begun.
+    /// The offset of a byte that is taken.
     #[inline(always)]
-    fn pass(&mut self, progress: Progress)
-        requires sound { is_sound progress ≡ true }
-        requires early { self.old.offset < 2 ^ 63 }
-        ensures { self.new ≡ record { offset = self.old.offset + 1; progress = progress } }
+    fn pass(&mut self) -> u64
+        requires { self.old.offset < 2 ^ 63 }
+        ensures at { result ≡ self.old.offset }
+        ensures passed { self.new ≡ record self.old { offset = self.old.offset + 1 } }
     {
-        self.progress = progress;
+        let at = self.offset;
         self.offset += 1;
+        at
     }
 
     /// In an open SysEx, its data bytes at the front of the input.

@@ -3,7 +3,7 @@
 --   first_fault sources outs routes     Count where a number isn't 1 to 16; else by the first faulty route Index where one of
 --                                       its numbers isn't below its count, or Twice where it stood before
 --   opened sources outs routes          the router at first
-use Rattle.std.specs.Prelude.{◌≡◌, ℕ, zero, suc, Bool, false, not, ◌&&◌, ◌||◌, ◌==◌, nat_lt, nat_le, if◌then◌else◌, List, [], ◌∷◌, ◌++◌, map, Option, Some, None}
+use Rattle.std.specs.Prelude.{◌≡◌, ℕ, Bool, false, not, ◌&&◌, ◌==◌, nat_lt, nat_le, if◌then◌else◌, List, [], ◌∷◌, ◌++◌, map, Option, Some, None}
 use Rattle.std.specs.List.{list_any, range_with_len}
 use Rattle.mb_merge.specs.Links.{Link, Merger, closed_link}
 use Rattle.mb_merge.specs.declared.opening.RouterFault.{RouterFault}

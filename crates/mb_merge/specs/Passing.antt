@@ -6,7 +6,8 @@
 --   passes_now m s mark       whether it passes at once when it is offered
 --   offered_in m s t mark     the router after an offer
 --   next_of m                 the mark that passes next, and the router then
-use Rattle.std.specs.Prelude.{ℕ, zero, suc, ◌+◌, Bool, true, false, not, ◌&&◌, ◌||◌, ◌==◌, nat_lt, if◌then◌else◌, List, [], ◌∷◌, ◌++◌, length, drop, Option, Some, None, slice_get}
+--   to_pass m                 how many marks were taken and haven't passed
+use Rattle.std.specs.Prelude.{ℕ, zero, suc, ◌+◌, Bool, true, false, not, ◌&&◌, ◌||◌, ◌==◌, nat_lt, if◌then◌else◌, List, [], ◌∷◌, ◌++◌, length, drop, Option, Some, None, slice_get, sum_by}
 use Rattle.mb_message.specs.declared.mark.Mark.{Mark}
 use Rattle.mb_message.specs.declared.mark.Mark.TheVariants as mark
 use Rattle.mb_merge.specs.declared.source.Held.{Held}
@@ -131,3 +132,10 @@ offered_passes m (Some p) = (
 -- one arrival that of the lowest source. Where none may, the router is drained.
 abbrev pub next_of : Merger → Option Passed × Merger
 next_of m = offered_passes m m.offered
+
+abbrev pub count_offered : Option Passed → ℕ
+count_offered None = 0
+count_offered (Some p) = 1
+
+abbrev pub to_pass : Merger → ℕ
+to_pass m = count_offered m.offered + sum_by (λ link. length link.held) m.links

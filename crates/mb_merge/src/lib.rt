@@ -15,5 +15,6 @@ pub use opening::RouterFault;
 pub use router::{Passed, Router};
 pub use source::Full;
 
+pub mod laws;
 #[cfg(test)]
 mod tests;

@@ -1,9 +1,9 @@
 //! The router.
 
-ghost use Rattle.std.specs.Prelude.{◌≡◌, ◌↔◌, ◌<◌, ◌≤◌, List, Bool, true, false, None, length, slice_get, slice_index_or, IsErr, IfErr, OnErr, OnOk, MatchResult};
+ghost use Rattle.std.specs.Prelude.{◌≡◌, ◌↔◌, ◌<◌, ◌≤◌, List, Bool, true, false, None, length, slice_get, slice_index_or, IsErr, IfErr, OnErr, OnOk, OnSome, MatchResult};
 ghost use Rattle.mb_message.specs.Signs.{sign_of, suits_sign};
 ghost use Rattle.mb_merge.specs.Links.{link_of, owner_of};
-ghost use Rattle.mb_merge.specs.Passing.{has_room, head_passes, held_passes, least, next_of, offered_in, offered_mark, passes_now};
+ghost use Rattle.mb_merge.specs.Passing.{has_room, head_passes, held_passes, least, next_of, offered_in, offered_mark, passes_now, to_pass};
 ghost use Rattle.mb_merge.specs.Opening.{Opens, Refuses};
 
 use crate::opening::{RouterFault, first_fault, sources_of};
@@ -110,6 +110,16 @@ impl Router {
     pub fn next_passed(&mut self) -> Option<Passed>
         ensures passed { result ≡ (next_of self.old).0 }
         ensures state { self.new ≡ (next_of self.old).1 }
+        // A caller's loop ends.
+        ensures fewer { OnSome result (to_pass self.new < to_pass self.old) }
+    {
+        let _outs = self.outs;
+        self.next()
+    }
+
+    fn next(&mut self) -> Option<Passed>
+        ensures passed { result ≡ (next_of self.old).0 }
+        ensures state { self.new ≡ (next_of self.old).1 }
     {
         if let Some(passed) = self.offered {
             self.offered = None;
@@ -149,6 +159,28 @@ impl Router {
                 mark: held.mark,
             }),
         }
+    }
+
+    /// How many sources there are: 1 to 16.
+    pub fn sources(&self) -> u8
+        ensures { result ≡ length self.now.links }
+    {
+        self.sources.len() as u8
+    }
+
+    /// How many outs there are: 1 to 16.
+    pub fn outs(&self) -> u8
+        ensures { result ≡ self.now.outs }
+    {
+        self.outs
+    }
+
+    /// The moment of the last mark that was taken of a source: 0 before any.
+    pub fn last(&self, source: u8) -> u64
+        requires { source < length self.now.links }
+        ensures { result ≡ (link_of self.now source).last }
+    {
+        self.sources[source as usize].last()
     }
 
     /// Whether marks are being drained: from an `Ok` of `offer` to a `None` of `next_passed`.

@@ -107,6 +107,14 @@ impl Source {
             .any(|(mine, theirs)| *mine && *theirs)
     }
 
+    /// The moment of the last mark that was taken: 0 before any.
+    #[inline(always)]
+    pub fn last(&self) -> u64
+        ensures { result ≡ self.now.last }
+    {
+        self.last
+    }
+
     /// How many marks are held: 1,024 at most.
     #[inline(always)]
     pub fn held(&self) -> u16

@@ -1,6 +1,9 @@
 -- A conversion on its way, over a desk that tells its contents.
-use Rattle.std.proofs.Common.{◌≡◌, ℕ, ◌+◌, ◌-◌, ◌<◌, ◌≤◌, true, List, [], ◌∷◌, ◌++◌, length, take, drop, refl, sym, ◌∙◌, ap, subst, append_assoc, arith, length-append, length-drop}
+use Rattle.std.proofs.Common.{◌≡◌, Bool, IsTrue, ℕ, ◌+◌, ◌-◌, ◌<◌, ◌≤◌, true, List, [], ◌∷◌, ◌++◌, length, take, drop, refl, sym, ◌∙◌, ap, subst, append_assoc, arith, length-append, length-drop}
 use Rattle.std.proofs.lemmas.List.{append-nil, take-append-drop, take_at, drop_at, length-take-le, take-append-le}
+use Rattle.mb_message.specs.Signs.{Sign}
+use Rattle.mb_stream.specs.Told.{Known}
+use Rattle.mb_carrier.specs.Hop.{HopStands, Fed, FedHalted, Ended, EndHalted}
 use Rattle.mb_outside.specs.Contents.{Contents, Gives, after_read, after_write}
 use Rattle.mb_outside.specs.ContentsLaws.{after_read-none, after_read-twice, after_write-twice}
 use Rattle.mb_outside.specs.Taking.{IsFront, Wrote}
@@ -75,11 +78,11 @@ ran-too_long first last limit before now bytes same s =
     record { input = bytes; output = live last (marks_so_far first bytes); contents = s.contents; front = s.front; within = omega (arith, same); ends = (same, refl) }
 
 -- the end was read
-pub at-end : (first last : Spec) (before old now : Contents) (bytes buffer : List ℕ) →
-    SoFar first last before old bytes → Gives old now 0 0 buffer → 0 < length buffer → (SoFar first last before now bytes) × (before.left 0 ≡ bytes)
-at-end first last before old now bytes buffer s g room = (
-  record { front = s.front; contents = (g.contents ∙ after_read-none 0 old) ∙ s.contents },
-  (s.front).1 ∙ (ap (λ xs. bytes ++ xs) (sym (left-now first last before old bytes s) ∙ g.ends refl room) ∙ append-nil bytes),
+pub at-end : (first last : Spec) (before old now : Contents) (bytes buffer : List ℕ) (count : ℕ) →
+    SoFar first last before old bytes → Gives old now 0 count buffer → count ≡ 0 → 0 < length buffer → (SoFar first last before now bytes) × (before.left 0 ≡ bytes)
+at-end first last before old now bytes buffer count s g none room = (
+  record { front = s.front; contents = ((g.contents ∙ ap (λ (n : ℕ). after_read 0 n old) none) ∙ after_read-none 0 old) ∙ s.contents },
+  (s.front).1 ∙ (ap (λ xs. bytes ++ xs) (sym (left-now first last before old bytes s) ∙ g.ends none room) ∙ append-nil bytes),
 )
 
 pub ran-done : (first last : Spec) (limit : ℕ) (before old now : Contents) (bytes given : List ℕ) →
@@ -131,19 +134,64 @@ ran-end_halted first last limit before old now bytes given r below s wrote front
     }
 
 -- a piece was refused
-pub ran-halted : (first last : Spec) (limit : ℕ) (before old now : Contents) (bytes piece given : List ℕ) →
-    IsRead first → length (bytes ++ piece) ≤ limit → length piece ≤ PIECE → Read first last before old bytes piece → now ≡ after_write 1 given old →
+pub ran-halted : (first last : Spec) (limit count : ℕ) (before old now : Contents) (bytes piece given : List ℕ) →
+    IsRead first → length piece ≡ count → length bytes + count ≤ limit → count ≤ PIECE → Read first last before old bytes piece → now ≡ after_write 1 given old →
     IsFront (live last (marks_so_far first bytes) ++ given) (live last (marks_so_far first (bytes ++ piece))) →
     Ran (Converting first [] last) limit before now WriteFault
-ran-halted first last limit before old now bytes piece given r within few s wrote front =
+ran-halted first last limit count before old now bytes piece given r size within few s wrote front =
     record {
       input = bytes ++ piece;
       output = live last (marks_so_far first bytes) ++ given;
       contents = wrote ∙ (ap (after_write 1 given) s.contents ∙ after_write-twice 1 (live last (marks_so_far first bytes)) given (after_read 0 (length (bytes ++ piece)) before));
       front = s.front;
-      within = within;
+      within = omega (arith, length-append bytes piece, size);
       ends = (
         front-trans _ _ _ front (converted-closes first last r (bytes ++ piece)),
-        front-trans _ _ _ (live-front first last r (all_but_last PIECE (bytes ++ piece)) bytes (all_but_last-front bytes piece few)) (given, refl),
+        front-trans _ _ _ (live-front first last r (all_but_last PIECE (bytes ++ piece)) bytes (all_but_last-front bytes piece (omega (arith, size)))) (given, refl),
       );
     }
+
+-- what a hop says, at the specs that a conversion began with
+pub fed-at : (s t first last : Spec) (reader reader_now : List ℕ → List Known → Type 0) (writer writer_now : List Sign → Type 0) (piece : List ℕ) (took : List ℕ → Type 0) →
+    s ≡ first → t ≡ last → Fed s t reader writer reader_now writer_now piece took → Fed first last reader writer reader_now writer_now piece took
+fed-at s t first last reader reader_now writer writer_now piece took same same_t f =
+    subst (λ (u : Spec). Fed u last reader writer reader_now writer_now piece took) same
+    (subst (λ (u : Spec). Fed s u reader writer reader_now writer_now piece took) same_t f)
+
+pub halted-at : (s t first last : Spec) (reader : List ℕ → List Known → Type 0) (writer : List Sign → Type 0) (piece : List ℕ) (took : List ℕ → Type 0) →
+    s ≡ first → t ≡ last → FedHalted s t reader writer piece took → FedHalted first last reader writer piece took
+halted-at s t first last reader writer piece took same same_t f =
+    subst (λ (u : Spec). FedHalted u last reader writer piece took) same (subst (λ (u : Spec). FedHalted s u reader writer piece took) same_t f)
+
+pub ended-at : (s t first last : Spec) (reader : List ℕ → List Known → Type 0) (writer : List Sign → Type 0) (took : List ℕ → Type 0) →
+    s ≡ first → t ≡ last → Ended s t reader writer took → Ended first last reader writer took
+ended-at s t first last reader writer took same same_t f =
+    subst (λ (u : Spec). Ended u last reader writer took) same (subst (λ (u : Spec). Ended s u reader writer took) same_t f)
+
+pub end_halted-at : (s t first last : Spec) (reader : List ℕ → List Known → Type 0) (writer : List Sign → Type 0) (took : List ℕ → Type 0) →
+    s ≡ first → t ≡ last → EndHalted s t reader writer took → EndHalted first last reader writer took
+end_halted-at s t first last reader writer took same same_t f =
+    subst (λ (u : Spec). EndHalted u last reader writer took) same (subst (λ (u : Spec). EndHalted s u reader writer took) same_t f)
+
+-- the front of a buffer whose front was filled
+pub piece-is : (filled rest : List ℕ) (count : ℕ) → count ≤ length filled → take count (filled ++ rest) ≡ take count filled
+piece-is filled rest count within = take-append-le count filled rest within
+
+pub piece-size : (filled rest : List ℕ) (count : ℕ) → count ≤ length filled → length (take count (filled ++ rest)) ≡ count
+piece-size filled rest count within = length-take-le count (filled ++ rest) (omega (arith, length-append filled rest))
+
+-- one more piece went through
+pub so_far-fed : {S : Type 0} (tells : Bool) (contents : S → Contents) (read_faults : S → ℕ) (first last : Spec) (reader reader_now : List ℕ → List Known → Type 0) (writer writer_now : List Sign → Type 0) (start old mid now : S) (bytes piece buffer : List ℕ) (taken count : ℕ) →
+    Fed first last reader writer reader_now writer_now piece (λ given. Wrote tells contents read_faults 1 mid given now) →
+    length bytes ≡ taken → length piece ≡ count → HopStands first reader writer bytes →
+    (IsTrue tells → SoFar first last (contents start) (contents old) bytes) →
+    (IsTrue tells → Gives (contents old) (contents mid) 0 count buffer) → piece ≡ take count buffer →
+    (all : List ℕ) × (length all ≡ taken + count) × HopStands first reader_now writer_now all × (IsTrue tells → SoFar first last (contents start) (contents now) all)
+so_far-fed tells contents read_faults first last reader reader_now writer writer_now start old mid now bytes piece buffer taken count f size more stands told gives cut = (
+  bytes ++ piece,
+  omega (arith, length-append bytes piece, size, more),
+  f.stands bytes stands,
+  λ t. so_far-more first last (contents start) (contents mid) (contents now) bytes piece f.given
+      (read-piece first last (contents start) (contents old) (contents mid) bytes buffer piece count (told t) (gives t) cut)
+      (f.took_it.contents_are t) (f.beyond bytes stands),
+)

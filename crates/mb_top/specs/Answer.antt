@@ -4,7 +4,8 @@
 --   taken_off, added_to    what a call took off a handle, and what it wrote to one
 --   Ends ..                what an answer says of the bytes left at first, those read and those written
 --   Answered ..            all that a call did to the desk
-use Rattle.std.specs.Prelude.{◌≡◌, ℕ, ◌-◌, ◌<◌, ◌≤◌, true, List, [], ◌∷◌, ◌++◌, length, take, drop, ◌⊎◌, codes}
+use Rattle.std.specs.Prelude.{◌≡◌, ℕ, ◌-◌, ◌<◌, ◌≤◌, Bool, true, false, ◌==◌, List, [], ◌∷◌, ◌++◌, length, take, drop, ◌⊎◌, codes}
+use Rattle.std.specs.List.{list_any}
 use Rattle.mb_outside.specs.Cause.{Rose}
 use Rattle.mb_outside.specs.Contents.{Contents, after_read, after_write}
 use Rattle.mb_outside.specs.Taking.{IsFront}
@@ -94,3 +95,25 @@ abbrev pub HasFault : (reads_before reads_after writes_before writes_after : ℕ
 HasFault reads reads_now writes writes_now ReadFault = Rose reads reads_now
 HasFault reads reads_now writes writes_now WriteFault = Rose writes writes_now
 HasFault reads reads_now writes writes_now _ = Unit {0}
+
+-- the same for words, which may mean no command
+pub record RanWords (words : List (List ℕ)) (limit : ℕ) (before after : Contents) (status : Status) : Type 0 where
+  pub input : List ℕ
+  pub output : List ℕ
+  pub contents : after ≡ after_write 1 output (after_read 0 (length input) before)
+  pub front : IsFront input (before.left 0)
+  pub within : length input ≤ limit
+  pub ends : Ends words limit (before.left 0) input output status
+
+-- no memory is needed for the carriers that are built
+abbrev pub wants_memory : Status → Bool
+wants_memory NoMemory = true
+wants_memory _ = false
+
+abbrev pub is_usage : Status → Bool
+is_usage Usage = true
+is_usage _ = false
+
+-- the answers that there are
+abbrev pub is_answer : ℕ → Bool
+is_answer n = list_any (λ code. code == n) (0 ∷ 2 ∷ 3 ∷ 4 ∷ 8 ∷ [])

@@ -1,28 +1,108 @@
 //! The top call.
 
+ghost use Rattle.std.specs.Prelude.{◌≡◌, ℕ, ◌<◌, ◌≤◌, ◌^◌, ◌↔◌, ◌⊎◌, true, false, List, [], length, IsTrue, OnOk, OnErr};
+ghost use Rattle.mb_outside.specs.Cause.{Rose, HasCause};
+ghost use Rattle.mb_outside.specs.Taking.{IsFront, Wrote};
+ghost use Rattle.mb_outside.specs.Contents.{after_write, is_writable};
+ghost use Rattle.mb_carrier.specs.Carrier.{den, whole, notes_of};
+ghost use Rattle.mb_carrier.specs.Conversion.{through};
+ghost use Rattle.mb_carrier.specs.declared.spec.Spec.{Spec};
+ghost use Rattle.mb_top.specs.Command as words_mean;
+ghost use Rattle.mb_top.specs.Command.{Converting, Means};
+ghost use Rattle.mb_top.specs.Answer.{Answered, RanWords, HasFault, Says, taken_off, added_to, is_answer, wants_memory};
+ghost use Rattle.mb_top.specs.declared.status.Status.TheVariants as status;
+
 use crate::command::Command;
 use crate::convert::convert;
 use crate::status::Status;
-use mb_outside::{Args, Desk, DeskOut, Out};
+use mb_outside::{Args, Desk, DeskOut, Out, Refused};
 use std::alloc::Global;
 
 /// The most bytes that are taken from one recording.
 pub const LIMIT: u64 = 1 << 40;
 
-/// Does all that the program does, and answers its exit status.
-pub fn bridge<D: Desk>(alloc: Global, words: &Args, desk: &mut D) -> u8 {
+/// Does all that the program does, and answers its exit status: 0 all was done, 2 the words are no command, 3 reading
+/// failed, 4 writing failed, 8 the input goes on at the limit.
+pub fn bridge<D: Desk>(alloc: Global, words: &Args, desk: &mut D) -> u8
+    // All that it does to a desk that tells its contents: nothing but what the answer says.
+    ensures contents { IsTrue D.tells → Answered words.now (2 ^ 40) (D.contents desk.old) (D.contents desk.new) (Rose (D.write_faults desk.old) (D.write_faults desk.new)) result }
+
+    // What was written denotes on its port exactly what the bytes read denote on theirs.
+    ensures headline { (first : Spec) (between : List Spec) (last : Spec) → IsTrue D.tells → Means words.now (Converting first between last) → result ≡ 0 →
+        den last (added_to 1 (D.contents desk.old) (D.contents desk.new)) ≡ den first (taken_off 0 (D.contents desk.old) (D.contents desk.new)) }
+
+    // All of the input was read, and its conversion written.
+    ensures exact { (first : Spec) (between : List Spec) (last : Spec) → IsTrue D.tells → Means words.now (Converting first between last) → result ≡ 0 →
+        added_to 1 (D.contents desk.old) (D.contents desk.new) ≡ through first between last ((D.contents desk.old).left 0) }
+
+    // What was written has no note and ends behind a whole packet.
+    ensures clean { (first : Spec) (between : List Spec) (last : Spec) → IsTrue D.tells → Means words.now (Converting first between last) → result ≡ 0 →
+        notes_of last (added_to 1 (D.contents desk.old) (D.contents desk.new)) ≡ [] }
+    ensures whole { (first : Spec) (between : List Spec) (last : Spec) → IsTrue D.tells → Means words.now (Converting first between last) → result ≡ 0 →
+        whole last (added_to 1 (D.contents desk.old) (D.contents desk.new)) ≡ true }
+
+    // Each answer has its cause, for every desk.
+    ensures answers { is_answer result ≡ true }
+    ensures usage { (result ≡ 2) ↔ ((c : words_mean.Command) → Means words.now c → ⊥) }
+    ensures read_fault { result ≡ 3 → Rose (D.read_faults desk.old) (D.read_faults desk.new) }
+    ensures write_fault { result ≡ 4 → Rose (D.write_faults desk.old) (D.write_faults desk.new) }
+
+    // It answers 0 for every whole input.
+    ensures complete { (first : Spec) (between : List Spec) (last : Spec) → IsTrue D.tells → Means words.now (Converting first between last) →
+        (Rose (D.read_faults desk.old) (D.read_faults desk.new) → ⊥) → (Rose (D.write_faults desk.old) (D.write_faults desk.new) → ⊥) →
+        length ((D.contents desk.old).left 0) < 2 ^ 40 → whole first ((D.contents desk.old).left 0) ≡ true → result ≡ 0 }
+{
     bridge_within(alloc, words, desk, LIMIT)
 }
 
 /// The same with another bound on what is taken from one recording.
-pub fn bridge_within<D: Desk>(alloc: Global, words: &Args, desk: &mut D, limit: u64) -> u8 {
+pub fn bridge_within<D: Desk>(alloc: Global, words: &Args, desk: &mut D, limit: u64) -> u8
+    requires most { limit ≤ 2 ^ 40 }
+    requires least { 0 < limit }
+
+    // All that it does to a desk that tells its contents: nothing but what the answer says.
+    ensures contents { IsTrue D.tells → Answered words.now limit (D.contents desk.old) (D.contents desk.new) (Rose (D.write_faults desk.old) (D.write_faults desk.new)) result }
+
+    // What was written denotes on its port exactly what the bytes read denote on theirs.
+    ensures headline { (first : Spec) (between : List Spec) (last : Spec) → IsTrue D.tells → Means words.now (Converting first between last) → result ≡ 0 →
+        den last (added_to 1 (D.contents desk.old) (D.contents desk.new)) ≡ den first (taken_off 0 (D.contents desk.old) (D.contents desk.new)) }
+
+    // All of the input was read, and its conversion written.
+    ensures exact { (first : Spec) (between : List Spec) (last : Spec) → IsTrue D.tells → Means words.now (Converting first between last) → result ≡ 0 →
+        added_to 1 (D.contents desk.old) (D.contents desk.new) ≡ through first between last ((D.contents desk.old).left 0) }
+
+    // What was written has no note and ends behind a whole packet.
+    ensures clean { (first : Spec) (between : List Spec) (last : Spec) → IsTrue D.tells → Means words.now (Converting first between last) → result ≡ 0 →
+        notes_of last (added_to 1 (D.contents desk.old) (D.contents desk.new)) ≡ [] }
+    ensures whole { (first : Spec) (between : List Spec) (last : Spec) → IsTrue D.tells → Means words.now (Converting first between last) → result ≡ 0 →
+        whole last (added_to 1 (D.contents desk.old) (D.contents desk.new)) ≡ true }
+
+    // Each answer has its cause, for every desk.
+    ensures answers { is_answer result ≡ true }
+    ensures usage { (result ≡ 2) ↔ ((c : words_mean.Command) → Means words.now c → ⊥) }
+    ensures read_fault { result ≡ 3 → Rose (D.read_faults desk.old) (D.read_faults desk.new) }
+    ensures write_fault { result ≡ 4 → Rose (D.write_faults desk.old) (D.write_faults desk.new) }
+
+    // It answers 0 for every whole input.
+    ensures complete { (first : Spec) (between : List Spec) (last : Spec) → IsTrue D.tells → Means words.now (Converting first between last) →
+        (Rose (D.read_faults desk.old) (D.read_faults desk.new) → ⊥) → (Rose (D.write_faults desk.old) (D.write_faults desk.new) → ⊥) →
+        length ((D.contents desk.old).left 0) < limit → whole first ((D.contents desk.old).left 0) ≡ true → result ≡ 0 }
+{
     let status = run(alloc, words, desk, limit);
     say(desk, status.text());
     status.code()
 }
 
 /// Carries the words out.
-fn run<D: Desk>(alloc: Global, words: &Args, desk: &mut D, limit: u64) -> Status {
+fn run<D: Desk>(alloc: Global, words: &Args, desk: &mut D, limit: u64) -> Status
+    requires { limit ≤ 2 ^ 40 }
+    ensures ran { IsTrue D.tells → RanWords words.now limit (D.contents desk.old) (D.contents desk.new) result }
+    ensures usage { (result ≡ status.Usage) ↔ ((c : words_mean.Command) → Means words.now c → ⊥) }
+    ensures memory { wants_memory result ≡ false }
+    ensures fault { HasFault (D.read_faults desk.old) (D.read_faults desk.new) (D.write_faults desk.old) (D.write_faults desk.new) result }
+    ensures reads { D.read_faults desk.old ≤ D.read_faults desk.new }
+    ensures writes { D.write_faults desk.old ≤ D.write_faults desk.new }
+{
     match Command::read(words) {
         Some(Command::Convert { first, last }) => convert(alloc, first, last, desk, limit),
         None => Status::Usage,
@@ -30,7 +110,22 @@ fn run<D: Desk>(alloc: Global, words: &Args, desk: &mut D, limit: u64) -> Status
 }
 
 /// Writes a text to standard error. That it can't be written changes no status.
-fn say<D: Desk>(desk: &mut D, text: &str) {
+fn say<D: Desk>(desk: &mut D, text: &str)
+    ensures said { IsTrue D.tells → (said : List ℕ) × (D.contents desk.new ≡ after_write 2 said (D.contents desk.old))
+        × Says (Rose (D.write_faults desk.old) (D.write_faults desk.new)) said text.now }
+    ensures reads { D.read_faults desk.new ≡ D.read_faults desk.old }
+    ensures writes { D.write_faults desk.old ≤ D.write_faults desk.new }
+{
+    let _ = write_text(desk, text);
+}
+
+/// Writes a text to standard error.
+fn write_text<D: Desk>(desk: &mut D, text: &str) -> Result<(), Refused>
+    ensures cause { HasCause (D.write_faults desk.old) (D.write_faults desk.new) result }
+    ensures read_faults { D.read_faults desk.new ≡ D.read_faults desk.old }
+    ensures ok { OnOk result (Wrote D.tells D.contents D.read_faults 2 desk.old text.now desk.new) }
+    ensures err { OnErr result ((front : List ℕ) × IsFront front text.now × Wrote D.tells D.contents D.read_faults 2 desk.old front desk.new) }
+{
     let mut out = DeskOut::new(desk, 2);
-    let _ = out.take(text.as_bytes());
+    out.take(text.as_bytes())
 }

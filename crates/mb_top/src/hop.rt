@@ -1,6 +1,6 @@
 //! What one hop is: a reader, a writer, and a buffer a piece between.
 
-ghost use Rattle.std.specs.Prelude.{◌≡◌, ℕ, ◌+◌, ◌^◌, ◌<◌, List, [], length, IsTrue, IfOk, OnOk, OnErr};
+ghost use Rattle.std.specs.Prelude.{◌≡◌, ℕ, ◌+◌, ◌^◌, ◌<◌, List, [], length, IsTrue, IsOk, IfOk, OnOk, OnErr};
 ghost use Rattle.mb_outside.specs.Cause.{HasCause};
 ghost use Rattle.mb_outside.specs.Contents.{is_writable};
 ghost use Rattle.mb_outside.specs.Taking.{Wrote};
@@ -25,6 +25,7 @@ impl Hop {
         requires first { IsRead first }
         requires last { IsSpec last }
         ensures ok { IfOk result (λ hop. (reader_spec hop.reader ≡ first) × (writer_spec hop.writer ≡ last) × (reader_offset hop.reader ≡ 0)) }
+        ensures memory { IsOk result }
         ensures stands { IfOk result (λ hop. ReaderStands hop.reader [] [] × WriterStands hop.writer []) }
     {
         let writer = PortWriter::new(alloc, last)?;

@@ -1,12 +1,11 @@
 //! The program: a real desk, the words after its name, and the top call.
 #![tactic(auto)]
 
-use std::env;
-use std::process::ExitCode;
-
 use mb_message::Memory;
 use mb_outside::{Args, RealDesk};
 use mb_top::bridge;
+use std::env;
+use std::process::ExitCode;
 
 /// The exit status where there is no memory for the desk or the words.
 const NO_MEMORY: u8 = 9;

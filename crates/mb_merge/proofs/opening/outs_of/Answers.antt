@@ -1,5 +1,5 @@
-use Rattle.std.proofs.Common.{◌≢◌, ◌<◌, ◌≡◌, ◌∙◌, ℕ, length, arith, below_more, get_or-set_other, get_or-set_same, false}
-use Rattle.std.proofs.Math.ListN.{length-set, set}
+use Rattle.std.proofs.Common.{◌≢◌, ◌<◌, ◌∙◌, length, arith, below_more, get_or-set_other, get_or-set_same, false}
+use Rattle.std.proofs.Math.ListN.{length-set}
 use Rattle.mb_merge.specs.Opening.{stands_in}
 use Rattle.mb_merge.proofs.OpenLemmas.{sixteen}
 use Rattle.mb_merge.proofs.opening.outs_of.Goals as goal

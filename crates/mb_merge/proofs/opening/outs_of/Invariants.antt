@@ -1,4 +1,4 @@
-use Rattle.std.proofs.Common.{◌≡◌, ℕ, ◌<◌, Bool, false, get_or, length}
+use Rattle.std.proofs.Common.{◌≡◌, ℕ, ◌<◌, false, get_or, length}
 use Rattle.mb_merge.specs.Opening.{stands_in}
 use Rattle.mb_merge.proofs.opening.outs_of.Given as goal
 

@@ -1,0 +1,41 @@
+use Rattle.std.proofs.Common.{◌≡◌, ℕ, ◌<◌, ◌+◌, length, refl, sym, ◌∙◌, ap, subst, arith, length-append}
+use Rattle.std.proofs.lemmas.Grind.{common_steps}
+use Rattle.mb_outside.specs.Contents.{Gives}
+use Rattle.mb_top.proofs.StreamLemmas.{read-piece, so_far-more, at-end, ran-done, ran-end_halted, ran-halted, fed-at, halted-at, ended-at, end_halted-at, piece-is, piece-size, so_far-fed}
+use Rattle.mb_top.proofs.convert.stream.Goals as goal
+
+pub returns-in-Ok-finish-clause-ran : goal.returns-in-Ok-finish-clause-ran
+returns-in-Ok-finish-clause-ran g c = λ tells.
+    let fed = c.pieces.invariant.fed in
+    let e = at-end _ _ _ _ _ fed.0 _ c.in-Ok.count (fed.3 tells) (c.in-Ok.ensures.contents tells) c.if-count-eq0.true (grind (arith, common_steps)) in
+    let ended = ended-at _ _ _ _ _ _ _ c.pieces.invariant.reads c.pieces.invariant.writes c.in-Ok-finish.ensures.ended in
+    ran-done _ _ _ _ _ _ fed.0 ended.given c.requires.read (omega (arith, fed.1)) e.0 e.1 (ended.took_it.contents_are tells) (ended.beyond fed.0 fed.2)
+
+pub returns-in-Err-clause-ran : goal.returns-in-Err-clause-ran
+returns-in-Err-clause-ran g c = λ tells.
+    let fed = c.pieces.invariant.fed in
+    let e = at-end _ _ _ _ _ fed.0 _ c.in-Ok.count (fed.3 tells) (c.in-Ok.ensures.contents tells) c.if-count-eq0.true (grind (arith, common_steps)) in
+    let halted = end_halted-at _ _ _ _ _ _ _ c.pieces.invariant.reads c.pieces.invariant.writes c.in-Err.ensures.halted in
+    ran-end_halted _ _ _ _ _ _ fed.0 halted.given c.requires.read (omega (arith, fed.1)) e.0 (halted.took_it.contents_are tells) (halted.front fed.0 fed.2)
+
+pub returns-in-Err-feed-clause-ran : goal.returns-in-Err-feed-clause-ran
+returns-in-Err-feed-clause-ran g c = λ tells.
+    let fed = c.pieces.invariant.fed in
+    let halted = halted-at _ _ _ _ _ _ _ _ c.pieces.invariant.reads c.pieces.invariant.writes c.in-Err-feed.ensures.halted in
+    let read = read-piece _ _ _ _ _ fed.0 _ _ c.in-Ok.count (fed.3 tells) (c.in-Ok.ensures.contents tells) (piece-is _ _ c.in-Ok.count c.in-Ok.ensures.bound) in
+    ran-halted _ _ _ c.in-Ok.count _ _ _ fed.0 _ halted.given c.requires.read (piece-size _ _ c.in-Ok.count c.in-Ok.ensures.bound) (grind (arith, common_steps, fed.1)) (grind (arith, common_steps)) read (halted.took_it.contents_are tells) (halted.front fed.0 fed.2)
+
+pub pieces-preserved : goal.pieces-preserved
+pieces-preserved g c =
+    let inv = c.pieces.invariant in
+    let fed = inv.fed in
+    let piece = fed-at _ _ _ _ _ _ _ _ _ _ inv.reads inv.writes c.in_default-feed.ensures.fed in
+    record {
+      within = grind (arith, common_steps);
+      reads = c.feed.ensures.reads ∙ inv.reads;
+      writes = c.feed.ensures.writes ∙ inv.writes;
+      offset = grind (arith, common_steps, c.in_default-feed.ensures.offset, piece-size);
+      reads_later = omega (arith, c.read.ensures.cause.later, c.feed.ensures.read_faults);
+      writes_later = omega (arith, c.feed.ensures.cause.later, c.read.ensures.write_faults);
+      fed = so_far-fed _ _ _ _ _ _ _ _ _ _ _ _ _ fed.0 _ _ _ c.in-Ok.count piece fed.1 (piece-size _ _ c.in-Ok.count c.in-Ok.ensures.bound) fed.2 fed.3 c.in-Ok.ensures.contents (piece-is _ _ c.in-Ok.count c.in-Ok.ensures.bound);
+    }

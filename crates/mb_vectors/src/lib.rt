@@ -1,0 +1,9 @@
+//! Tests alone: worked examples of every carrier, as tables, on the top call over a desk in memory.
+#![tactic(auto)]
+
+#[cfg(test)]
+mod conversion;
+#[cfg(test)]
+mod faults;
+#[cfg(test)]
+mod row;
