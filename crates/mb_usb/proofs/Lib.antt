@@ -1,5 +1,6 @@
 pub mod CablesLaw
 pub mod CarrierLaws
+mod DeviceExamples
 pub mod EachCable
 mod Examples
 pub mod GoodCuts
