@@ -1,3 +1,4 @@
+pub mod CableLemmas
 pub mod ChainLemmas
 pub mod FeedLemmas
 pub mod LineLemmas

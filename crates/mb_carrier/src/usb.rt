@@ -2,9 +2,40 @@
 
 ghost use Rattle.std.specs.Prelude.{ℕ, List};
 
-use crate::EventWriter;
-use mb_message::{Buf, Ev};
-use mb_usb::UsbWriter;
+use crate::{EventReader, EventWriter};
+use mb_message::{Buf, Ev, Seen};
+use mb_usb::{CableReader, UsbWriter};
+
+impl EventReader for CableReader {
+    ghost use Rattle.mb_usb.specs.State as state;
+    ghost use Rattle.mb_usb.specs.Cables.{CableStands};
+    ghost use Rattle.mb_carrier.specs.declared.spec.Spec.TheVariants.{Usb};
+    ghost use Rattle.mb_carrier.specs.UsbLaws.{known-stays, marks-end, marks-suit};
+
+    ghost spec = { λ r. Usb r.cable };
+
+    ghost offset = { λ r. r.packet.offset };
+
+    ghost owed = { λ r. state.owed_one r };
+
+    ghost stands = { λ r bytes told. CableStands r bytes told };
+
+    #[inline(always)]
+    fn next<'a>(&mut self, input: &mut &'a [u8]) -> Option<Seen<'a>> {
+        CableReader::next(self, input)
+    }
+
+    #[inline(always)]
+    fn finish(&mut self) -> Option<Seen<'static>> {
+        CableReader::finish(self)
+    }
+
+    ghost stays = { λ r bytes more. known-stays r.cable bytes more };
+
+    ghost ends = { λ r bytes. marks-end r.cable bytes };
+
+    ghost suits = { λ r bytes. marks-suit r.cable bytes };
+}
 
 impl EventWriter for UsbWriter {
     ghost use Rattle.mb_usb.specs.Writer.{Writer, Stands};

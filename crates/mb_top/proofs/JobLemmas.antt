@@ -1,5 +1,5 @@
 -- What was written of some input stays written; and what a hop or a listing says, as a job says it.
-use Rattle.std.proofs.Common.{◌≡◌, ℕ, Bool, true, false, List, [], ◌∷◌, ◌++◌, refl, sym, ◌∙◌, ap, subst, append_assoc}
+use Rattle.std.proofs.Common.{◌≡◌, ℕ, Bool, true, false, not, ◌&&◌, List, [], ◌∷◌, ◌++◌, refl, sym, ◌∙◌, ap, subst, append_assoc}
 use Rattle.std.specs.Prelude.{Result, OnOk, OnErr, IfOk}
 use Rattle.std.proofs.lemmas.List.{append-nil, map-append}
 use Rattle.std.proofs.lemmas.Result.{on_ok_weaker, on_err_weaker}
@@ -95,12 +95,14 @@ pub list-halted : (s : Spec) (traced : Bool) (reader : List ℕ → List Known �
 list-halted s traced reader noted piece took r f =
     record { given = f.given; took_it = f.took_it; front = λ bytes h. at-known traced s r f.given bytes (bytes ++ piece) (f.front bytes h) }
 
-remarked : (s : Spec) (traced noted : Bool) → IsRead s → (bytes : List ℕ) → noted ≡ has_notes (told_of (known s bytes) ++ end_told s bytes) → Remarked noted (Listing traced s) bytes
-remarked s traced true r bytes e = is-noted s r bytes (sym e)
-remarked s traced false r bytes e = not-noted s r bytes (sym e)
+remarked : (s : Spec) (traced noted : Bool) → IsRead s → (bytes : List ℕ) → noted ≡ has_notes (told_of (known s bytes) ++ end_told s bytes) → Remarked (noted && not traced) (Listing traced s) bytes
+remarked s true true r bytes e = tt
+remarked s true false r bytes e = tt
+remarked s false true r bytes e = is-noted s r bytes (sym e)
+remarked s false false r bytes e = not-noted s r bytes (sym e)
 
 pub list-ended : (s : Spec) (traced : Bool) (reader : List ℕ → List Known → Type 0) (noted noted_now : Bool) (took : List ℕ → Type 0) → IsRead s →
-    ListEnded s traced reader noted noted_now took → JobEnded (Listing traced s) (ListStands s reader noted) noted_now took
+    ListEnded s traced reader noted noted_now took → JobEnded (Listing traced s) (ListStands s reader noted) (noted_now && not traced) took
 list-ended s traced reader noted noted_now took r e =
     record {
       given = e.given;
@@ -131,12 +133,12 @@ job-list_halted r j old piece took built e f =
     subst (λ (x : Job). OnErr r (JobHalted (job_command x) (JobStands x) piece took)) (sym e)
     (on_err_weaker r (λ halted. list-halted (reader_spec old.reader) old.traced (ReaderStands old.reader) old.noted piece took (subst (λ (x : Job). IsBuilt (job_command x)) e built) halted) f)
 
-pub job-list_ended : (j : Job) (old new : lister.Listing) (noted : Bool) (took : List ℕ → Type 0) → IsBuilt (job_command j) → j ≡ job.List old → noted ≡ new.noted →
+pub job-list_ended : (j : Job) (old new : lister.Listing) (noted : Bool) (took : List ℕ → Type 0) → IsBuilt (job_command j) → j ≡ job.List old → new.traced ≡ old.traced → noted ≡ new.noted && not new.traced →
     ListEnded (reader_spec old.reader) old.traced (ReaderStands old.reader) old.noted new.noted took → JobEnded (job_command j) (JobStands j) noted took
-job-list_ended j old new noted took built e same f =
+job-list_ended j old new noted took built e traced same f =
     subst (λ (x : Job). JobEnded (job_command x) (JobStands x) noted took) (sym e)
-    (list-ended (reader_spec old.reader) old.traced (ReaderStands old.reader) old.noted noted took (subst (λ (x : Job). IsBuilt (job_command x)) e built)
-    (subst (λ (b : Bool). ListEnded (reader_spec old.reader) old.traced (ReaderStands old.reader) old.noted b took) (sym same) f))
+    (subst (λ (b : Bool). JobEnded (Listing old.traced (reader_spec old.reader)) (JobStands (job.List old)) b took) (sym (same ∙ ap (λ (t : Bool). new.noted && not t) traced))
+    (list-ended (reader_spec old.reader) old.traced (ReaderStands old.reader) old.noted new.noted took (subst (λ (x : Job). IsBuilt (job_command x)) e built) f))
 
 pub job-list_end_halted : (j : Job) (old : lister.Listing) (took : List ℕ → Type 0) → IsBuilt (job_command j) → j ≡ job.List old →
     ListEndHalted (reader_spec old.reader) old.traced (ReaderStands old.reader) old.noted took → JobEndHalted (job_command j) (JobStands j) took

@@ -11,6 +11,7 @@ ghost use Rattle.mb_carrier.specs.declared.spec.Spec.{Spec};
 ghost use Rattle.mb_carrier.specs.declared.spec.Spec.TheVariants.{Din};
 ghost use Rattle.mb_top.specs.Command as words_mean;
 ghost use Rattle.mb_top.specs.Command.{Converting, Listing, Means};
+ghost use Rattle.mb_top.specs.Output.{HasNotes, HasNoNotes};
 ghost use Rattle.mb_top.specs.Answer.{Answered, RanWords, HasFault, Says, taken_off, added_to, is_answer, wants_memory};
 ghost use Rattle.mb_top.specs.declared.status.Status.TheVariants as status;
 
@@ -23,7 +24,7 @@ use std::alloc::Global;
 /// The most bytes that are taken from one recording.
 pub const LIMIT: u64 = 1 << 40;
 
-/// Does all that the program does, and answers its exit status: 0 all was done, 1 all was done and there were notes, 2 the
+/// Does all that the program does, and answers its exit status: 0 all was done, 1 `check` found notes, 2 the
 /// words are no command, 3 reading failed, 4 writing failed, 8 as many bytes as the limit were read.
 pub fn bridge<D: Desk>(alloc: Global, words: &Args, desk: &mut D) -> u8
     // All that it does to a desk that tells its contents: nothing but what the answer says.
@@ -47,11 +48,11 @@ pub fn bridge<D: Desk>(alloc: Global, words: &Args, desk: &mut D) -> u8
     ensures canonical { (first : Spec) (between : List Spec) → IsTrue D.tells → Means words.now (Converting first between Din) → result ≡ 0 →
         through Din [] Din (added_to 1 (D.contents desk.old) (D.contents desk.new)) ≡ added_to 1 (D.contents desk.old) (D.contents desk.new) }
 
-    // `check` and `trace` print the lines of all the input, and answer 1 where it has a note.
+    // `check` and `trace` print the lines of all the input, and `check` answers 1 where it has a note.
     ensures listed { (traced : Bool) (s : Spec) → IsTrue D.tells → Means words.now (Listing traced s) → result ≤ 1 →
         added_to 1 (D.contents desk.old) (D.contents desk.new) ≡ listed traced s ((D.contents desk.old).left 0) }
-    ensures no_note { (traced : Bool) (s : Spec) → IsTrue D.tells → Means words.now (Listing traced s) → result ≡ 0 → notes_of s ((D.contents desk.old).left 0) ≡ [] }
-    ensures a_note { (traced : Bool) (s : Spec) → IsTrue D.tells → Means words.now (Listing traced s) → result ≡ 1 → notes_of s ((D.contents desk.old).left 0) ≡ [] → ⊥ }
+    ensures no_note { (c : words_mean.Command) → IsTrue D.tells → Means words.now c → result ≡ 0 → HasNoNotes c ((D.contents desk.old).left 0) }
+    ensures a_note { (c : words_mean.Command) → IsTrue D.tells → Means words.now c → result ≡ 1 → HasNotes c ((D.contents desk.old).left 0) }
 
     // Each answer has its cause, for every desk.
     ensures answers { is_answer result ≡ true }
@@ -93,11 +94,11 @@ pub fn bridge_within<D: Desk>(alloc: Global, words: &Args, desk: &mut D, limit: 
     ensures canonical { (first : Spec) (between : List Spec) → IsTrue D.tells → Means words.now (Converting first between Din) → result ≡ 0 →
         through Din [] Din (added_to 1 (D.contents desk.old) (D.contents desk.new)) ≡ added_to 1 (D.contents desk.old) (D.contents desk.new) }
 
-    // `check` and `trace` print the lines of all the input, and answer 1 where it has a note.
+    // `check` and `trace` print the lines of all the input, and `check` answers 1 where it has a note.
     ensures listed { (traced : Bool) (s : Spec) → IsTrue D.tells → Means words.now (Listing traced s) → result ≤ 1 →
         added_to 1 (D.contents desk.old) (D.contents desk.new) ≡ listed traced s ((D.contents desk.old).left 0) }
-    ensures no_note { (traced : Bool) (s : Spec) → IsTrue D.tells → Means words.now (Listing traced s) → result ≡ 0 → notes_of s ((D.contents desk.old).left 0) ≡ [] }
-    ensures a_note { (traced : Bool) (s : Spec) → IsTrue D.tells → Means words.now (Listing traced s) → result ≡ 1 → notes_of s ((D.contents desk.old).left 0) ≡ [] → ⊥ }
+    ensures no_note { (c : words_mean.Command) → IsTrue D.tells → Means words.now c → result ≡ 0 → HasNoNotes c ((D.contents desk.old).left 0) }
+    ensures a_note { (c : words_mean.Command) → IsTrue D.tells → Means words.now c → result ≡ 1 → HasNotes c ((D.contents desk.old).left 0) }
 
     // Each answer has its cause, for every desk.
     ensures answers { is_answer result ≡ true }

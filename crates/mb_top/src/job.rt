@@ -54,7 +54,7 @@ impl Job {
         }
     }
 
-    /// Writes what only the end makes known, and answers whether there were notes to tell of.
+    /// Writes what only the end makes known, and answers whether there were notes for `check` to answer.
     pub(crate) fn finish<D: Desk>(&mut self, desk: &mut D) -> Result<bool, Refused>
         requires built { IsBuilt (job_command self.old) }
         requires stands { (bytes : List ℕ) × JobStands self.old bytes }
@@ -69,7 +69,7 @@ impl Job {
                 Err(refused) => Err(refused),
             },
             Job::List(listing) => match listing.finish(desk) {
-                Ok(()) => Ok(listing.noted()),
+                Ok(()) => Ok(listing.answers_a_note()),
                 Err(refused) => Err(refused),
             },
         }

@@ -1,6 +1,6 @@
 //! The listing of a recording: its notes, or its marks and notes, a line each.
 
-ghost use Rattle.std.specs.Prelude.{◌≡◌, ℕ, ◌+◌, ◌^◌, ◌<◌, List, [], length, false, OnOk, OnErr};
+ghost use Rattle.std.specs.Prelude.{◌≡◌, ℕ, ◌+◌, ◌^◌, ◌<◌, ◌&&◌, not, List, [], length, false, OnOk, OnErr};
 ghost use Rattle.mb_outside.specs.Cause.{HasCause};
 ghost use Rattle.mb_outside.specs.Taking.{Wrote};
 ghost use Rattle.mb_carrier.specs.Listing.{ListStands, ListFed, ListHalted, ListEnded, ListEndHalted};
@@ -34,11 +34,11 @@ impl Listing {
         }
     }
 
-    /// Whether there was a note.
-    pub(crate) fn noted(&self) -> bool
-        ensures { result ≡ self.now.noted }
+    /// Whether notes are what the caller asked for, and there was one.
+    pub(crate) fn answers_a_note(&self) -> bool
+        ensures { result ≡ self.now.noted && not self.now.traced }
     {
-        self.noted
+        self.noted && !self.traced
     }
 
     /// Reads a piece to its end and prints all that it gives to standard output.
@@ -62,6 +62,7 @@ impl Listing {
     /// Prints what only the end makes known.
     pub(crate) fn finish<D: Desk>(&mut self, desk: &mut D) -> Result<(), Refused>
         requires stands { (bytes : List ℕ) × ListStands (reader_spec self.old.reader) (ReaderStands self.old.reader) self.old.noted bytes }
+        ensures traced { self.new.traced ≡ self.old.traced }
         ensures cause { HasCause (D.write_faults desk.old) (D.write_faults desk.new) result }
         ensures read_faults { D.read_faults desk.new ≡ D.read_faults desk.old }
         ensures ended { OnOk result (ListEnded (reader_spec self.old.reader) self.old.traced (ReaderStands self.old.reader) self.old.noted self.new.noted

@@ -8,7 +8,7 @@ ghost use Rattle.mb_top.specs.Answer.{code_of, text_of};
 pub(crate) enum Status {
     /// All was done.
     Done,
-    /// All was done, and there were notes.
+    /// `check` found notes.
     Noted,
     /// The words are no command.
     Usage,

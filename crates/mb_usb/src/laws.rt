@@ -5,6 +5,8 @@ ghost use Rattle.mb_message.specs.Signs.{Sign, AbortSign};
 ghost use Rattle.mb_stream.specs.Denotation.{denotation};
 ghost use Rattle.mb_stream.specs.Reading.{notes_of, signs_of};
 ghost use Rattle.mb_stream.specs.Standing.{AreValid, suited, is_open};
+ghost use Rattle.mb_din.specs.Reader.{IsFront};
+ghost use Rattle.mb_usb.specs.Cables.{cable_so_far};
 ghost use Rattle.mb_usb.specs.Reading.{usb_reading, usb_whole};
 ghost use Rattle.mb_usb.specs.Running.{usb_at, usb_from, pending_from};
 ghost use Rattle.mb_usb.specs.Written.{usb_live, usb_written};
@@ -36,4 +38,9 @@ pub fn usb_carries()
 pub fn usb_reading_suits()
     ensures suits { (cable : ℕ) (bytes : List ℕ) → suited (signs_of (usb_reading cable bytes)) ≡ true }
     ensures valid { (cable : ℕ) (bytes : List ℕ) → AreValid (signs_of (usb_reading cable bytes)) }
+{}
+
+/// What is known of a cable at some bytes of a recording stays known, whatever follows.
+pub fn usb_reading_grows()
+    ensures { (cable : ℕ) (bytes more : List ℕ) → IsFront (cable_so_far cable bytes) (cable_so_far cable (bytes ++ more)) }
 {}

@@ -47,7 +47,7 @@ const TRACED: &[Listed] = &[
         "notes stand among the marks",
         &[0x3c, 0xf0, 0x01, 0xf7, 0xf7, 0xf6],
         "note 0 stray-data\n0 open\n0 data 01\n0 end\nnote 4 stray-end\n0 short F6\n",
-        1,
+        0,
     ),
 ];
 

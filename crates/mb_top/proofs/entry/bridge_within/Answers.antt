@@ -5,6 +5,7 @@ use Rattle.mb_carrier.specs.Lines.{listed}
 use Rattle.mb_carrier.specs.declared.spec.Spec.TheVariants.{Din}
 use Rattle.mb_carrier.proofs.ChainLemmas.{through-canonical, through-means, through-clean, through-whole}
 use Rattle.mb_top.specs.Command.{Converting, Listing}
+use Rattle.mb_top.specs.Output.{HasNotes, HasNoNotes}
 use Rattle.mb_top.proofs.AnswerLemmas.{answered, done, noted, went_through, completes, says-earlier, says-text, not_usage, read_fault, write_fault}
 use Rattle.mb_top.proofs.entry.bridge_within.Goals as goal
 
@@ -45,14 +46,14 @@ returns-clause-listed g c = λ traced s tells m few.
     t.output_is ∙ ap (listed traced s) (sym t.all)
 
 pub returns-clause-no_note : goal.returns-clause-no_note
-returns-clause-no_note g c = λ traced s tells m zero.
-    let d = done _ _ _ _ _ _ _ (Listing traced s) zero m (returns-clause-contents g c tells) in
-    ap (notes_of s) (d.0).all ∙ d.1
+returns-clause-no_note g c = λ command tells m zero.
+    let d = done _ _ _ _ _ _ _ command zero m (returns-clause-contents g c tells) in
+    subst (HasNoNotes command) (sym (d.0).all) d.1
 
 pub returns-clause-a_note : goal.returns-clause-a_note
-returns-clause-a_note g c = λ traced s tells m one none.
-    let d = noted _ _ _ _ _ _ _ (Listing traced s) one m (returns-clause-contents g c tells) in
-    d.1 (sym (ap (notes_of s) (d.0).all) ∙ none)
+returns-clause-a_note g c = λ command tells m one.
+    let d = noted _ _ _ _ _ _ _ command one m (returns-clause-contents g c tells) in
+    subst (HasNotes command) (sym (d.0).all) d.1
 
 pub returns-clause-complete : goal.returns-clause-complete
 returns-clause-complete g c = λ first between last tells m no_reads no_writes short is_whole.

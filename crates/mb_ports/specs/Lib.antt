@@ -1,0 +1,4 @@
+pub mod Events
+pub mod Machine
+pub mod OnePort
+pub mod Reader

@@ -1,0 +1,99 @@
+-- The readings of all cables of a USB recording in one list (USB Device Class Definition for MIDI Devices 1.0, section 4), and what the
+-- readers promise. Nobody has to believe `UsbStands` and `CableStands`: a fresh reader stands for nothing, each call keeps it,
+-- and each answer is bound to the recording's reading.
+--
+--   all_cables_so_far bytes       the reading of each cable, each entry with its cable, and the notes on packets, in order
+--   UsbStands now bytes told      a reader of all cables took these bytes and told this
+--   CableStands now bytes told    a reader of one cable did
+--   UsbTells, CableTells          what a call takes and tells
+use Rattle.std.specs.Prelude.{ℕ, ◌/◌, List, [], ◌∷◌, ◌++◌, map, flat_map, Option, Some, None, ◌==◌, nat_lt, if◌then◌else◌}
+use Rattle.mb_message.specs.declared.note.Note.{Note}
+use Rattle.mb_message.specs.declared.event.PortSeen.{PortSeen}
+use Rattle.mb_message.specs.declared.event.PortSeen.TheVariants.{Port, Unit}
+use Rattle.mb_stream.specs.Told.{Told, Notes, Known}
+use Rattle.mb_stream.specs.Order.{in_order}
+use Rattle.mb_stream.specs.Reading.{payload_told}
+use Rattle.mb_din.specs.State.{State}
+use Rattle.mb_din.specs.Turn.{told_by}
+use Rattle.mb_ports.specs.Events.{Ported, ported, unported, known_of, below}
+use Rattle.mb_ports.specs.Machine.{Machine}
+use Rattle.mb_ports.specs.Reader.{Whole, Holds, Tells, AllTold}
+use Rattle.mb_ports.specs.OnePort.{HoldsOne, TellsOne, AllToldOne}
+use Rattle.mb_usb.specs.declared.under.Under.{Under}
+use Rattle.mb_usb.specs.declared.under.Under.TheVariants.{Between}
+use Rattle.mb_usb.specs.declared.under.Packet.{Packet}
+use Rattle.mb_usb.specs.Reading.{packets, cable_payload, unit_note, usb_told}
+use Rattle.mb_usb.specs.Under.{under_after, left_of, head_of, note_at}
+use Rattle.mb_usb.specs.State.{UsbState, CableState, reader_at}
+
+abbrev pub of_cable : List ℕ → ℕ → List Ported
+of_cable bytes c = map (ported c) (payload_told (cable_payload c bytes))
+
+abbrev pub of_packets : List ℕ → List Ported
+of_packets bytes = map unported (flat_map unit_note (packets bytes))
+
+abbrev pub all_cables_so_far : List ℕ → List Ported
+all_cables_so_far bytes = in_order known_of (flat_map (of_cable bytes) (below 16) ++ of_packets bytes)
+
+-- what becomes known of one cable, with the notes on every packet
+abbrev pub cable_so_far : ℕ → List ℕ → List Known
+cable_so_far cable bytes = in_order (λ k. k) (usb_told cable bytes)
+
+-- Packets byte by byte: which cable's bytes are which port's is the reader's choice.
+
+abbrev pub listed : Option Note → List Note
+listed None = []
+listed (Some x) = x ∷ []
+
+abbrev pub port_by : (left : ℕ) → Option ℕ → Option ℕ
+port_by left port = if left == 0 then None else port
+
+abbrev pub usb : (ℕ → Option ℕ) → Machine Under
+usb port_of = record {
+  start = Between;
+  after = under_after;
+  port = λ u. port_by (left_of u) (port_of (head_of u / 16));
+  notes = λ u b at. listed (note_at u b at);
+}
+
+abbrev pub each_cable : ℕ → Option ℕ
+each_cable h = if nat_lt h 16 then Some h else None
+
+abbrev pub only_cable : ℕ → ℕ → Option ℕ
+only_cable c h = if h == c then Some 0 else None
+
+abbrev pub whole_of : Packet → (ℕ → State) → Whole Under
+whole_of p readers = record { offset = p.offset; under = p.under; due = listed p.due; readers = readers }
+
+abbrev pub UsbHolds : Packet → List State → List ℕ → List Ported → Type 0
+UsbHolds packet readers bytes told = Holds (usb each_cable) 16 (whole_of packet (reader_at readers)) bytes told
+
+abbrev pub UsbStands : UsbState → List ℕ → List Ported → Type 0
+UsbStands now bytes told = UsbHolds now.packet now.readers bytes told
+
+abbrev pub CableHolds : ℕ → Packet → State → List ℕ → List Known → Type 0
+CableHolds cable packet reader bytes told = HoldsOne (usb (only_cable cable)) (whole_of packet (λ _. reader)) bytes told
+
+abbrev pub CableStands : CableState → List ℕ → List Known → Type 0
+CableStands now bytes told = CableHolds now.cable now.packet now.reader bytes told
+
+-- what an answer tells, a run as its bytes, each with its cable
+abbrev pub port_told_by : PortSeen → List (Option ℕ × Told)
+port_told_by (Port c seen) = map (λ t. (Some c, t)) (told_by seen)
+port_told_by (Unit n) = (None, Notes n.at n.kind) ∷ []
+
+abbrev pub port_answer : Option PortSeen → List (Option ℕ × Told)
+port_answer None = []
+port_answer (Some s) = port_told_by s
+
+abbrev pub UsbTells : (was now : UsbState) (input left : List ℕ) → List (Option ℕ × Told) → Type 0
+UsbTells was now input left seen = Tells all_cables_so_far (UsbStands was) (UsbStands now) input left seen
+
+abbrev pub UsbAllTold : UsbState → List ℕ → Type 0
+UsbAllTold was input = AllTold all_cables_so_far (UsbStands was) input
+
+abbrev pub CableTells : (was now : CableState) (input left : List ℕ) → List Told → Type 0
+CableTells was now input left answer = TellsOne (cable_so_far was.cable) (CableStands was) (CableStands now) input left answer
+
+abbrev pub CableAllTold : CableState → List ℕ → Type 0
+CableAllTold was input = AllToldOne (cable_so_far was.cable) (CableStands was) input
