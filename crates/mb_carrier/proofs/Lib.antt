@@ -4,6 +4,7 @@ pub mod FeedLemmas
 pub mod LineLemmas
 pub mod ListLemmas
 pub mod MomentLemmas
+pub mod PortLemmas
 pub mod SpecLaws
 pub mod WordLemmas
 pub mod HopLemmas

@@ -16,9 +16,6 @@ use Rattle.mb_carrier.specs.Carrier.{known, end_told}
 use Rattle.mb_carrier.specs.Hop.{ReaderGoes}
 use Rattle.mb_carrier.specs.Listing.{lines_told, lines_known, told_of, has_notes, is_note, Gathered, ListStands, ListFed, ListHalted, ListEnded, ListEndHalted}
 use Rattle.mb_carrier.specs.Line.{LineStands}
-use Rattle.mb_carrier.specs.Port.{reader_spec_by, ReaderStandsBy}
-use Rattle.mb_carrier.specs.declared.reader.ReaderOf.{ReaderOf}
-use Rattle.mb_carrier.specs.declared.reader.ReaderOf.TheVariants as reader
 use Rattle.mb_carrier.specs.declared.spec.Spec.{Spec}
 use Rattle.mb_carrier.specs.declared.spec.Spec.TheVariants as spec
 use Rattle.mb_din.specs.State.{State}
@@ -371,10 +368,3 @@ ended-last_halted s traced reader noted held kept took_first took_second took x 
         ∙ (sym (g.all ∙ ap (λ xs. xs ++ lines_told traced (told_by x)) none) ∙ (ap (λ xs. g.given ++ xs) (f.1).1 ∙ sym (append_assoc g.given f.0 (f.1).0))),
       );
     }
-
--- the only carrier that is read so far, at the reader that stands in it
-pub din-halted : {T E : Type 0} (r : Result T E) (carrier : ReaderOf) (read : ReaderOf → State) (traced noted : Bool) (piece : List ℕ) (took : List ℕ → Type 0) →
-    ((d : State) → read (reader.Din d) ≡ d) →
-    OnErr r (ListHalted spec.Din traced (LineStands (read carrier)) noted piece took) →
-    OnErr r (ListHalted (reader_spec_by carrier) traced (ReaderStandsBy carrier) noted piece took)
-din-halted r (reader.Din d) read traced noted piece took same h = subst (λ (s : State). OnErr r (ListHalted spec.Din traced (LineStands s) noted piece took)) (same d) h

@@ -3,17 +3,16 @@ use Rattle.std.proofs.Common.{◌≡◌, ℕ, true, List, [], ◌++◌, refl, sy
 use Rattle.mb_message.specs.Signs.{Sign}
 use Rattle.mb_stream.specs.Standing.{suited}
 use Rattle.mb_outside.specs.Taking.{IsFront}
-use Rattle.mb_carrier.specs.Carrier.{known, known_signs, end_told, told_signs, marks_of, marks_so_far, live, written, whole}
-use Rattle.mb_carrier.specs.Port.{IsRead}
+use Rattle.mb_carrier.specs.Carrier.{known, known_signs, end_told, told_signs, marks_of, marks_so_far, live, written}
 use Rattle.mb_carrier.specs.DinLaws as din
 use Rattle.mb_carrier.specs.UsbLaws as usb
 use Rattle.mb_carrier.specs.declared.spec.Spec.{Spec}
 use Rattle.mb_carrier.specs.declared.spec.Spec.TheVariants.{Din, Usb}
 use Rattle.mb_carrier.proofs.FeedLemmas.{Reads, suited-so_far, suited-front, known_signs-append}
 
-pub reads : (s : Spec) → IsRead s → Reads s
-reads Din r = record { stays = din.known-stays; ends = din.marks-end; suits = din.marks-suit }
-reads (Usb cable) r = absurd r
+pub reads : (s : Spec) → Reads s
+reads Din = record { stays = din.known-stays; ends = din.marks-end; suits = din.marks-suit }
+reads (Usb cable) = record { stays = usb.known-stays cable; ends = usb.marks-end cable; suits = usb.marks-suit cable }
 
 -- the laws of a spec that is written
 pub record Writes (s : Spec) : Type 0 where
@@ -28,9 +27,9 @@ pub front-trans : {A : Type 0} (xs ys zs : List A) → IsFront xs ys → IsFront
 front-trans xs ys zs f g = (f.0 ++ g.0, g.1 ∙ (ap (λ us. us ++ g.0) f.1 ∙ append_assoc xs f.0 g.0))
 
 -- what was written of some bytes stays written
-pub converted-stays : (s t : Spec) → IsRead s → (bytes more : List ℕ) → IsFront (live t (marks_so_far s bytes)) (live t (marks_so_far s (bytes ++ more)))
-converted-stays s t r bytes more =
-    let laws = reads s r in
+pub converted-stays : (s t : Spec) (bytes more : List ℕ) → IsFront (live t (marks_so_far s bytes)) (live t (marks_so_far s (bytes ++ more)))
+converted-stays s t bytes more =
+    let laws = reads s in
     let stays = laws.stays bytes more in
     let same : marks_so_far s (bytes ++ more) ≡ marks_so_far s bytes ++ known_signs stays.0 =
     ap known_signs stays.1 ∙ known_signs-append (known s bytes) stays.0 in
@@ -38,23 +37,19 @@ converted-stays s t r bytes more =
     (f.0, ap (live t) same ∙ f.1)
 
 -- what the end adds stands behind it
-pub converted-closes : (s t : Spec) → IsRead s → (bytes : List ℕ) → IsFront (live t (marks_so_far s bytes)) (written t (marks_of s bytes))
-converted-closes s t r bytes =
-    let laws = reads s r in
+pub converted-closes : (s t : Spec) (bytes : List ℕ) → IsFront (live t (marks_so_far s bytes)) (written t (marks_of s bytes))
+converted-closes s t bytes =
+    let laws = reads s in
     let ends = laws.ends bytes in
     let f = (writes t).stays (marks_so_far s bytes) (told_signs (end_told s bytes)) (ap suited (sym ends) ∙ laws.suits bytes) in
     front-trans (live t (marks_so_far s bytes)) (live t (marks_of s bytes)) (written t (marks_of s bytes))
     (f.0, ap (live t) ends ∙ f.1) ((writes t).closes (marks_of s bytes) (laws.suits bytes))
 
 -- nothing is known of no bytes, and nothing is written of it
-pub known-none : (s : Spec) → IsRead s → known s [] ≡ []
-known-none Din r = refl
-known-none (Usb cable) r = absurd r
+pub known-none : (s : Spec) → known s [] ≡ []
+known-none Din = refl
+known-none (Usb cable) = refl
 
 pub live-none : (t : Spec) → live t [] ≡ []
 live-none Din = refl
 live-none (Usb cable) = refl
-
-pub whole-read : (s : Spec) → IsRead s → (bytes : List ℕ) → whole s bytes ≡ true
-whole-read Din r bytes = refl
-whole-read (Usb cable) r bytes = absurd r

@@ -7,5 +7,6 @@ pub mod Line
 pub mod Lines
 pub mod Listing
 pub mod Port
+pub mod Step
 pub mod UsbLaws
 pub mod Word

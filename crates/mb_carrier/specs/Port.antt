@@ -1,10 +1,13 @@
 -- What readers and writers of any port stand for, by their carrier.
-use Rattle.std.specs.Prelude.{◌≡◌, ℕ, true, List}
+use Rattle.std.specs.Prelude.{◌≡◌, ℕ, Bool, true, List, take}
 use Rattle.mb_message.specs.Signs.{Sign}
 use Rattle.mb_stream.specs.Told.{Known}
 use Rattle.mb_din.specs.Writer as din
 use Rattle.mb_usb.specs.Writer as usb
-use Rattle.mb_din.specs.State.{State, owed}
+use Rattle.mb_din.specs.State as din_state
+use Rattle.mb_usb.specs.Cables.{CableStands}
+use Rattle.mb_usb.specs.State as usb_state
+use Rattle.mb_usb.specs.Under.{left_of}
 use Rattle.mb_carrier.specs.Line.{LineStands}
 use Rattle.mb_carrier.specs.declared.spec.Spec.{Spec}
 use Rattle.mb_carrier.specs.declared.spec.Spec.TheVariants as spec
@@ -22,6 +25,10 @@ writer_spec_by (writer.Usb w) = spec.Usb w.cable
 abbrev pub writer_spec : PortWriter → Spec
 writer_spec w = writer_spec_by w.carrier
 
+abbrev pub in_sysex_by : WriterOf → Bool
+in_sysex_by (writer.Din w) = w.in_sysex
+in_sysex_by (writer.Usb w) = w.in_sysex
+
 abbrev pub WriterStandsBy : WriterOf → List Sign → Type 0
 WriterStandsBy (writer.Din w) marks = din.Stands w marks × (w.running ≡ true)
 WriterStandsBy (writer.Usb w) marks = usb.Stands w marks
@@ -29,25 +36,44 @@ WriterStandsBy (writer.Usb w) marks = usb.Stands w marks
 abbrev pub WriterStands : PortWriter → List Sign → Type 0
 WriterStands w marks = WriterStandsBy w.carrier marks
 
+-- whether a SysEx is open
+abbrev pub writer_in_sysex : PortWriter → Bool
+writer_in_sysex w = in_sysex_by w.carrier
+
 abbrev pub reader_spec_by : ReaderOf → Spec
 reader_spec_by (reader.Din r) = spec.Din
+reader_spec_by (reader.Usb r) = spec.Usb r.cable
 
 abbrev pub reader_spec : PortReader → Spec
 reader_spec r = reader_spec_by r.carrier
 
 abbrev pub ReaderStandsBy : ReaderOf → List ℕ → List Known → Type 0
 ReaderStandsBy (reader.Din r) bytes told = LineStands r bytes told
+ReaderStandsBy (reader.Usb r) bytes told = CableStands r bytes told
 
 abbrev pub ReaderStands : PortReader → List ℕ → List Known → Type 0
 ReaderStands r bytes told = ReaderStandsBy r.carrier bytes told
 
+-- how many bytes it took
 abbrev pub reader_offset_by : ReaderOf → ℕ
 reader_offset_by (reader.Din r) = r.offset
+reader_offset_by (reader.Usb r) = r.packet.offset
 
 abbrev pub reader_offset : PortReader → ℕ
 reader_offset r = reader_offset_by r.carrier
 
--- the carriers that are read so far
-abbrev pub IsRead : Spec → Type 0
-IsRead spec.Din = Unit {0}
-IsRead (spec.Usb cable) = ⊥
+-- whether something that takes no byte may be told next: 1, else 0
+abbrev pub reader_owed_by : ReaderOf → ℕ
+reader_owed_by (reader.Din r) = din_state.owed r
+reader_owed_by (reader.Usb r) = usb_state.owed_one r
+
+abbrev pub reader_owed : PortReader → ℕ
+reader_owed r = reader_owed_by r.carrier
+
+-- the bytes of the port that stand side by side at the front of an input, as far as is known
+abbrev pub beside_by : ReaderOf → List ℕ → List ℕ
+beside_by (reader.Din r) input = input
+beside_by (reader.Usb r) input = take (left_of r.packet.under) input
+
+abbrev pub beside : PortReader → List ℕ → List ℕ
+beside r input = beside_by r.carrier input

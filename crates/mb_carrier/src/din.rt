@@ -18,6 +18,8 @@ impl EventReader for DinReader {
 
     ghost owed = { λ r. state.owed r };
 
+    ghost beside = { λ r input. input };
+
     ghost stands = { λ r bytes told. LineStands r bytes told };
 
     #[inline(always)]

@@ -1,10 +1,11 @@
 //! Readers and writers of one port, as a hop's loop sees them: it is written once, over these traits.
 
-ghost use Rattle.std.specs.Prelude.{◌≡◌, ℕ, ◌+◌, ◌*◌, ◌^◌, ◌<◌, ◌≤◌, Bool, true, List, [], ◌++◌, length, OnSome, IfNone};
+ghost use Rattle.std.specs.Prelude.{◌≡◌, ℕ, ◌+◌, ◌*◌, ◌^◌, ◌<◌, ◌≤◌, Bool, true, List, [], ◌++◌, length, OnSome, IfSome, IfNone};
 ghost use Rattle.arrayvec.specs.ArrayVec.{array_vec_len};
 ghost use Rattle.mb_message.specs.Signs.{Sign, suits_event, IsShortRun, open_behind, signs_of_event};
 ghost use Rattle.mb_stream.specs.Standing.{suited, is_open};
 ghost use Rattle.mb_stream.specs.Told.{Known};
+ghost use Rattle.mb_din.specs.Reader.{IsLongest};
 ghost use Rattle.mb_din.specs.Turn.{answer};
 ghost use Rattle.mb_outside.specs.Taking.{IsFront};
 ghost use Rattle.mb_carrier.specs.Carrier.{known, end_told, told_signs, marks_of, marks_so_far, live, written};
@@ -28,6 +29,9 @@ pub trait EventReader {
     /// Whether something that takes no byte may be told next: 1, else 0.
     ghost owed: { Self → ℕ };
 
+    /// The bytes of its port that stand side by side at the front of an input, as far as it knows.
+    ghost beside: { Self → List ℕ → List ℕ };
+
     /// It took these bytes and told this of them.
     ghost stands: { Self → List ℕ → List Known → Type 0 };
 
@@ -38,6 +42,7 @@ pub trait EventReader {
         ensures end { offset self.new + length input.new.now ≡ offset self.old + length input.old.now }
         ensures progress { OnSome result (2 * length input.new.now + owed self.new < 2 * length input.old.now + owed self.old) }
         ensures none { IfNone result (input.new.now ≡ []) }
+        ensures longest { IfSome result (IsLongest (beside self.new input.new.now)) }
         ensures goes { (bytes : List ℕ) (told : List Known) → stands self.old bytes told → IsFront told (known (spec self.old) (bytes ++ input.old.now)) →
             ReaderGoes (known (spec self.old)) (stands self.new) input.old.now input.new.now (answer result) bytes told }
         ensures all_told { IfNone result ((bytes : List ℕ) (told : List Known) → stands self.old bytes told → IsFront told (known (spec self.old) (bytes ++ input.old.now)) →

@@ -4,7 +4,7 @@ ghost use Rattle.std.specs.Prelude.{◌≡◌, ℕ, ◌+◌, ◌^◌, ◌<◌, L
 ghost use Rattle.mb_outside.specs.Cause.{HasCause};
 ghost use Rattle.mb_carrier.specs.Hop.{Fed, FedHalted, Ended, EndHalted, HopStands};
 ghost use Rattle.mb_carrier.specs.Listing.{ListStands, ListFed, ListHalted, ListEnded, ListEndHalted};
-ghost use Rattle.mb_carrier.specs.Port.{reader_spec_by, reader_offset_by, ReaderStandsBy, reader_spec, reader_offset, ReaderStands, writer_spec, WriterStands};
+ghost use Rattle.mb_carrier.specs.Port.{reader_spec, reader_offset, ReaderStands, writer_spec, WriterStands};
 
 use crate::feed::{feed_pair, finish_pair};
 use crate::listing::{list_last, list_pair};
@@ -35,6 +35,8 @@ pub fn feed_hop<K: Out>(
     match (&mut reader.carrier, &mut writer.carrier) {
         (ReaderOf::Din(reader), WriterOf::Din(writer)) => feed_pair(reader, writer, piece, out),
         (ReaderOf::Din(reader), WriterOf::Usb(writer)) => feed_pair(reader, writer, piece, out),
+        (ReaderOf::Usb(reader), WriterOf::Din(writer)) => feed_pair(reader, writer, piece, out),
+        (ReaderOf::Usb(reader), WriterOf::Usb(writer)) => feed_pair(reader, writer, piece, out),
     }
 }
 
@@ -56,6 +58,8 @@ pub fn finish_hop<K: Out>(
     match (&mut reader.carrier, &mut writer.carrier) {
         (ReaderOf::Din(reader), WriterOf::Din(writer)) => finish_pair(reader, writer, out),
         (ReaderOf::Din(reader), WriterOf::Usb(writer)) => finish_pair(reader, writer, out),
+        (ReaderOf::Usb(reader), WriterOf::Din(writer)) => finish_pair(reader, writer, out),
+        (ReaderOf::Usb(reader), WriterOf::Usb(writer)) => finish_pair(reader, writer, out),
     }
 }
 
@@ -78,31 +82,11 @@ pub fn list_hop<K: Out>(
     ensures fed { OnOk result (ListFed (reader_spec reader.old) traced (ReaderStands reader.old) (ReaderStands reader.new) noted.old noted.new piece.now (λ given. K.took out.old given out.new)) }
     ensures halted { OnErr result (ListHalted (reader_spec reader.old) traced (ReaderStands reader.old) noted.old piece.now (λ given. K.took out.old given out.new)) }
 {
-    list_carrier(&mut reader.carrier, traced, noted, piece, out)
-}
-
-fn list_carrier<K: Out>(
-    carrier: &mut ReaderOf,
-    traced: bool,
-    noted: &mut bool,
-    piece: &[u8],
-    out: &mut K,
-) -> Result<(), Refused>
-    requires early { reader_offset_by carrier.old + length piece.now < 2 ^ 63 }
-    requires ready { K.ready out.old }
-    requires stands { (bytes : List ℕ) × ListStands (reader_spec_by carrier.old) (ReaderStandsBy carrier.old) noted.old bytes }
-    ensures reads { reader_spec_by carrier.new ≡ reader_spec_by carrier.old }
-    ensures offset { OnOk result (reader_offset_by carrier.new ≡ reader_offset_by carrier.old + length piece.now) }
-    ensures ready { K.ready out.new }
-    ensures cause { HasCause (K.refusals out.old) (K.refusals out.new) result }
-    ensures halted { OnErr result (ListHalted (reader_spec_by carrier.old) traced (ReaderStandsBy carrier.old) noted.old piece.now (λ given. K.took out.old given out.new)) }
-    ensures fed { OnOk result (ListFed (reader_spec_by carrier.old) traced (ReaderStandsBy carrier.old) (ReaderStandsBy carrier.new) noted.old noted.new piece.now (λ given. K.took out.old given out.new)) }
-{
-    match carrier {
+    match &mut reader.carrier {
         ReaderOf::Din(reader) => list_pair(reader, traced, noted, piece, out),
+        ReaderOf::Usb(reader) => list_pair(reader, traced, noted, piece, out),
     }
 }
-
 
 /// Prints what only the end makes known. After `Refused` a front of it was handed on.
 pub fn list_end<K: Out>(
@@ -120,5 +104,6 @@ pub fn list_end<K: Out>(
 {
     match &mut reader.carrier {
         ReaderOf::Din(reader) => list_last(reader, traced, noted, out),
+        ReaderOf::Usb(reader) => list_last(reader, traced, noted, out),
     }
 }

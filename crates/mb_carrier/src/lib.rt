@@ -9,6 +9,7 @@ pub mod laws;
 mod listing;
 mod reader;
 mod spec;
+mod step;
 mod usb;
 mod writer;
 
@@ -16,4 +17,5 @@ pub use events::{EventReader, EventWriter, ROOM};
 pub use hop::{feed_hop, finish_hop, list_end, list_hop};
 pub use reader::PortReader;
 pub use spec::Spec;
+pub use step::PortStep;
 pub use writer::PortWriter;

@@ -1,6 +1,6 @@
 //! A cable of USB-MIDI packets behind the face of all carriers.
 
-ghost use Rattle.std.specs.Prelude.{ℕ, List};
+ghost use Rattle.std.specs.Prelude.{ℕ, List, take};
 
 use crate::{EventReader, EventWriter};
 use mb_message::{Buf, Ev, Seen};
@@ -8,6 +8,7 @@ use mb_usb::{CableReader, UsbWriter};
 
 impl EventReader for CableReader {
     ghost use Rattle.mb_usb.specs.State as state;
+    ghost use Rattle.mb_usb.specs.Under.{left_of};
     ghost use Rattle.mb_usb.specs.Cables.{CableStands};
     ghost use Rattle.mb_carrier.specs.declared.spec.Spec.TheVariants.{Usb};
     ghost use Rattle.mb_carrier.specs.UsbLaws.{known-stays, marks-end, marks-suit};
@@ -17,6 +18,8 @@ impl EventReader for CableReader {
     ghost offset = { λ r. r.packet.offset };
 
     ghost owed = { λ r. state.owed_one r };
+
+    ghost beside = { λ r input. take (left_of r.packet.under) input };
 
     ghost stands = { λ r bytes told. CableStands r bytes told };
 

@@ -1,5 +1,5 @@
 -- From what a command did to what the caller sees.
-use Rattle.std.proofs.Common.{◌≡◌, Bool, IsTrue, ℕ, ◌+◌, ◌-◌, ◌<◌, ◌≤◌, true, false, List, [], ◌∷◌, ◌++◌, length, take, drop, refl, sym, ◌∙◌, ap, subst, inl, inr, arith, length-append}
+use Rattle.std.proofs.Common.{◌≡◌, Bool, IsTrue, ℕ, ◌+◌, ◌-◌, ◌<◌, ◌≤◌, ◌↔◌, true, false, List, [], ◌∷◌, ◌++◌, length, take, drop, refl, sym, ◌∙◌, ap, subst, inl, inr, arith, length-append}
 use Rattle.std.specs.Prelude.{Result, Ok, Err, OnOk, OnErr}
 use Rattle.std.proofs.lemmas.List.{append-nil, take_at, drop_at}
 use Rattle.mb_outside.specs.Cause.{Rose}
@@ -11,9 +11,10 @@ use Rattle.mb_carrier.specs.Word.{word_of}
 use Rattle.mb_carrier.specs.declared.spec.Spec.{Spec}
 use Rattle.mb_carrier.proofs.WordLemmas.{word_of-same}
 use Rattle.mb_top.specs.Command.{Command, Converting, Listing, Means, words_of}
-use Rattle.mb_top.specs.Answer.{Answered, WentThrough, RanWords, Ran, Ends, EndsAs, HasFault, Says, faults_told, changed, taken_off, added_to, code_of, text_of, is_usage, wants_memory}
+use Rattle.mb_top.specs.Output.{source_of}
+use Rattle.mb_top.specs.Answer.{Answered, WentThrough, RanWords, Ran, Ends, EndsAs, HasFault, Says, faults_told, changed, taken_off, added_to, code_of, text_of, is_usage, wants_memory, read_all}
 use Rattle.mb_top.specs.declared.status.Status.{Status}
-use Rattle.mb_top.specs.declared.status.Status.TheVariants.{Done, Noted, Usage, ReadFault, WriteFault, TooLong, NoMemory}
+use Rattle.mb_top.specs.declared.status.Status.TheVariants.{Done, Noted, Usage, ReadFault, WriteFault, Cut, TooLong, NoMemory}
 
 -- a text was written as far as writing went
 pub said : {T E S : Type 0} (r : Result T E) (tells : Bool) (contents : S → Contents) (read_faults : S → ℕ) (before after : S) (text : List ℕ) (rose : Type 0) →
@@ -76,6 +77,7 @@ ends-words Noted words limit left input output c u one e = λ d m. subst (λ (x 
 ends-words Usage words limit left input output c u one e = absurd (wrong u)
 ends-words ReadFault words limit left input output c u one e = λ d m. subst (λ (x : Command). EndsAs x limit left input output ReadFault) (one d m) e
 ends-words WriteFault words limit left input output c u one e = λ d m. subst (λ (x : Command). EndsAs x limit left input output WriteFault) (one d m) e
+ends-words Cut words limit left input output c u one e = λ d m. subst (λ (x : Command). EndsAs x limit left input output Cut) (one d m) e
 ends-words TooLong words limit left input output c u one e = λ d m. subst (λ (x : Command). EndsAs x limit left input output TooLong) (one d m) e
 ends-words NoMemory words limit left input output c u one e = λ d m. subst (λ (x : Command). EndsAs x limit left input output NoMemory) (one d m) e
 
@@ -141,6 +143,7 @@ done words limit before after faults faults_now answer c zero m a = by_status a.
     by_status Usage e ends = absurd (omega (arith, e))
     by_status ReadFault e ends = absurd (omega (arith, e))
     by_status WriteFault e ends = absurd (omega (arith, e))
+    by_status Cut e ends = absurd (omega (arith, e))
     by_status TooLong e ends = absurd (omega (arith, e))
     by_status NoMemory e ends = absurd (omega (arith, e))
 
@@ -156,37 +159,76 @@ noted words limit before after faults faults_now answer c one m a = by_status a.
     by_status Usage e ends = absurd (omega (arith, e))
     by_status ReadFault e ends = absurd (omega (arith, e))
     by_status WriteFault e ends = absurd (omega (arith, e))
+    by_status Cut e ends = absurd (omega (arith, e))
     by_status TooLong e ends = absurd (omega (arith, e))
     by_status NoMemory e ends = absurd (omega (arith, e))
 
 pub went_through : (words : List (List ℕ)) (limit : ℕ) (before after : Contents) (faults faults_now answer : ℕ) (c : Command) →
-    answer ≤ 1 → Means words c → Answered words limit before after faults faults_now answer →
+    read_all answer ≡ true → Means words c → Answered words limit before after faults faults_now answer →
     WentThrough c limit (before.left 0) (taken_off 0 before after) (added_to 1 before after)
-went_through words limit before after faults faults_now answer c few m a = by_status a.status (omega (arith, a.number, few)) a.ends
+went_through words limit before after faults faults_now answer c all m a = by_status a.status (sym (ap read_all a.number) ∙ all) a.ends
   where
-    by_status : (status : Status) → code_of status ≤ 1 → Ends words limit (before.left 0) (taken_off 0 before after) (added_to 1 before after) status →
+    by_status : (status : Status) → read_all (code_of status) ≡ true → Ends words limit (before.left 0) (taken_off 0 before after) (added_to 1 before after) status →
         WentThrough c limit (before.left 0) (taken_off 0 before after) (added_to 1 before after)
     by_status Done e ends = (ends c m).0
     by_status Noted e ends = (ends c m).0
-    by_status Usage e ends = absurd (omega (arith, e))
-    by_status ReadFault e ends = absurd (omega (arith, e))
-    by_status WriteFault e ends = absurd (omega (arith, e))
-    by_status TooLong e ends = absurd (omega (arith, e))
-    by_status NoMemory e ends = absurd (omega (arith, e))
+    by_status Usage e ends = absurd (wrong (sym e))
+    by_status ReadFault e ends = absurd (wrong (sym e))
+    by_status WriteFault e ends = absurd (wrong (sym e))
+    by_status Cut e ends = (ends c m).0
+    by_status TooLong e ends = absurd (wrong (sym e))
+    by_status NoMemory e ends = absurd (wrong (sym e))
 
--- an answer that is none of the others is 0
-pub completes : (words : List (List ℕ)) (limit : ℕ) (before after : Contents) (rose reads writes : Type 0) (status : Status) (first : Spec) (between : List Spec) (last : Spec) →
-    Means words (Converting first between last) → is_usage status ≡ false → wants_memory status ≡ false →
+-- at the end, it is 5 exactly where the input stops inside a packet
+pub cut-at_end : (words : List (List ℕ)) (limit : ℕ) (before after : Contents) (faults faults_now answer : ℕ) (c : Command) →
+    read_all answer ≡ true → Means words c → Answered words limit before after faults faults_now answer → (answer ≡ 5) ↔ (whole (source_of c) (before.left 0) ≡ false)
+cut-at_end words limit before after faults faults_now answer c all m a =
+    subst (λ (n : ℕ). (n ≡ 5) ↔ (whole (source_of c) (before.left 0) ≡ false)) (sym a.number) (by_status a.status (sym (ap read_all a.number) ∙ all) a.ends)
+  where
+    is_whole : whole (source_of c) (taken_off 0 before after) ≡ true → before.left 0 ≡ taken_off 0 before after → whole (source_of c) (before.left 0) ≡ false → ⊥
+    is_whole w same h = wrong (sym w ∙ (sym (ap (whole (source_of c)) same) ∙ h))
+    by_status : (status : Status) → read_all (code_of status) ≡ true → Ends words limit (before.left 0) (taken_off 0 before after) (added_to 1 before after) status →
+        (code_of status ≡ 5) ↔ (whole (source_of c) (before.left 0) ≡ false)
+    by_status Done e ends = (λ n. absurd (omega (arith, n)), λ h. absurd (is_whole (ends c m).1 ((ends c m).0).all h))
+    by_status Noted e ends = (λ n. absurd (omega (arith, n)), λ h. absurd (is_whole (ends c m).1 ((ends c m).0).all h))
+    by_status Usage e ends = absurd (wrong (sym e))
+    by_status ReadFault e ends = absurd (wrong (sym e))
+    by_status WriteFault e ends = absurd (wrong (sym e))
+    by_status Cut e ends = (λ n. ap (whole (source_of c)) ((ends c m).0).all ∙ (ends c m).1, λ h. refl)
+    by_status TooLong e ends = absurd (wrong (sym e))
+    by_status NoMemory e ends = absurd (wrong (sym e))
+
+-- an answer that is none of the others comes at the end
+pub reads_all : (words : List (List ℕ)) (limit : ℕ) (before after : Contents) (reads writes : Type 0) (status : Status) (c : Command) →
+    Means words c → is_usage status ≡ false → wants_memory status ≡ false →
     (code_of status ≡ 3 → reads) → (code_of status ≡ 4 → writes) → (reads → ⊥) → (writes → ⊥) → length (before.left 0) < limit →
-    RanWords words limit before after status → code_of status ≡ 0
-completes words limit before after rose reads writes Done first between last m u w r f nr nw short ran = refl
-completes words limit before after rose reads writes Noted first between last m u w r f nr nw short ran = absurd ((ran.ends (Converting first between last) m).1)
-completes words limit before after rose reads writes Usage first between last m u w r f nr nw short ran = absurd (wrong u)
-completes words limit before after rose reads writes ReadFault first between last m u w r f nr nw short ran = absurd (nr (r refl))
-completes words limit before after rose reads writes WriteFault first between last m u w r f nr nw short ran = absurd (nw (f refl))
-completes words limit before after rose reads writes TooLong first between last m u w r f nr nw short ran =
-    absurd (omega (arith, short, (ran.ends (Converting first between last) m).0, ap length (ran.front).1, length-append ran.input (ran.front).0))
-completes words limit before after rose reads writes NoMemory first between last m u w r f nr nw short ran = absurd (wrong w)
+    RanWords words limit before after status → read_all (code_of status) ≡ true
+reads_all words limit before after reads writes Done c m u w r f nr nw short ran = refl
+reads_all words limit before after reads writes Noted c m u w r f nr nw short ran = refl
+reads_all words limit before after reads writes Usage c m u w r f nr nw short ran = absurd (wrong u)
+reads_all words limit before after reads writes ReadFault c m u w r f nr nw short ran = absurd (nr (r refl))
+reads_all words limit before after reads writes WriteFault c m u w r f nr nw short ran = absurd (nw (f refl))
+reads_all words limit before after reads writes Cut c m u w r f nr nw short ran = refl
+reads_all words limit before after reads writes TooLong c m u w r f nr nw short ran =
+    absurd (omega (arith, short, (ran.ends c m).0, ap length (ran.front).1, length-append ran.input (ran.front).0))
+reads_all words limit before after reads writes NoMemory c m u w r f nr nw short ran = absurd (wrong w)
+
+-- of a conversion of a whole input, that is 0
+pub completes : (words : List (List ℕ)) (limit : ℕ) (before after : Contents) (faults faults_now answer : ℕ) (first : Spec) (between : List Spec) (last : Spec) →
+    read_all answer ≡ true → Means words (Converting first between last) → whole first (before.left 0) ≡ true → Answered words limit before after faults faults_now answer → answer ≡ 0
+completes words limit before after faults faults_now answer first between last all m is_whole a = a.number ∙ by_status a.status (sym (ap read_all a.number) ∙ all) a.ends
+  where
+    by_status : (status : Status) → read_all (code_of status) ≡ true → Ends words limit (before.left 0) (taken_off 0 before after) (added_to 1 before after) status → code_of status ≡ 0
+    by_status Done e ends = refl
+    by_status Noted e ends = absurd ((ends (Converting first between last) m).2)
+    by_status Usage e ends = absurd (wrong (sym e))
+    by_status ReadFault e ends = absurd (wrong (sym e))
+    by_status WriteFault e ends = absurd (wrong (sym e))
+    by_status Cut e ends =
+        let w = ends (Converting first between last) m in
+        absurd (wrong (sym is_whole ∙ (ap (whole first) (w.0).all ∙ w.1)))
+    by_status TooLong e ends = absurd (wrong (sym e))
+    by_status NoMemory e ends = absurd (wrong (sym e))
 
 -- a fault of the text is one more than the status tells
 rose-more : (reads reads_mid before mid now : ℕ) (status : Status) → before ≤ mid → HasFault reads reads_mid before mid status → Rose mid now →
@@ -196,6 +238,7 @@ rose-more reads reads_mid before mid now Done le f r = omega (arith, r)
 rose-more reads reads_mid before mid now Noted le f r = omega (arith, r)
 rose-more reads reads_mid before mid now Usage le f r = omega (arith, r)
 rose-more reads reads_mid before mid now ReadFault le f r = omega (arith, r)
+rose-more reads reads_mid before mid now Cut le f r = omega (arith, r)
 rose-more reads reads_mid before mid now TooLong le f r = omega (arith, r)
 rose-more reads reads_mid before mid now NoMemory le f r = omega (arith, r)
 
@@ -213,6 +256,7 @@ not_usage Noted h = refl
 not_usage Usage h = absurd (h refl)
 not_usage ReadFault h = refl
 not_usage WriteFault h = refl
+not_usage Cut h = refl
 not_usage TooLong h = refl
 not_usage NoMemory h = refl
 
@@ -222,6 +266,7 @@ read_fault reads reads_mid reads_now writes writes_mid Done same f e = absurd (o
 read_fault reads reads_mid reads_now writes writes_mid Noted same f e = absurd (omega (arith, e))
 read_fault reads reads_mid reads_now writes writes_mid Usage same f e = absurd (omega (arith, e))
 read_fault reads reads_mid reads_now writes writes_mid WriteFault same f e = absurd (omega (arith, e))
+read_fault reads reads_mid reads_now writes writes_mid Cut same f e = absurd (omega (arith, e))
 read_fault reads reads_mid reads_now writes writes_mid TooLong same f e = absurd (omega (arith, e))
 read_fault reads reads_mid reads_now writes writes_mid NoMemory same f e = absurd (omega (arith, e))
 
@@ -231,5 +276,6 @@ write_fault reads reads_mid writes writes_mid writes_now Done le f e = absurd (o
 write_fault reads reads_mid writes writes_mid writes_now Noted le f e = absurd (omega (arith, e))
 write_fault reads reads_mid writes writes_mid writes_now Usage le f e = absurd (omega (arith, e))
 write_fault reads reads_mid writes writes_mid writes_now ReadFault le f e = absurd (omega (arith, e))
+write_fault reads reads_mid writes writes_mid writes_now Cut le f e = absurd (omega (arith, e))
 write_fault reads reads_mid writes writes_mid writes_now TooLong le f e = absurd (omega (arith, e))
 write_fault reads reads_mid writes writes_mid writes_now NoMemory le f e = absurd (omega (arith, e))

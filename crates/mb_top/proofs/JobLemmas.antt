@@ -6,17 +6,17 @@ use Rattle.std.proofs.lemmas.Result.{on_ok_weaker, on_err_weaker}
 use Rattle.mb_message.specs.Signs.{Sign}
 use Rattle.mb_stream.specs.Told.{Known}
 use Rattle.mb_outside.specs.Taking.{IsFront}
-use Rattle.mb_carrier.specs.Carrier.{known, end_told, whole}
+use Rattle.mb_carrier.specs.Carrier.{known, end_told}
 use Rattle.mb_carrier.specs.Hop.{HopStands, Fed, FedHalted, Ended, EndHalted}
 use Rattle.mb_carrier.specs.Listing.{lines_known, lines_told, told_of, has_notes, ListStands, ListFed, ListHalted, ListEnded, ListEndHalted}
 use Rattle.mb_carrier.specs.Lines.{listed, listed_so_far}
-use Rattle.mb_carrier.specs.Port.{IsRead, reader_spec, ReaderStands, writer_spec, WriterStands}
+use Rattle.mb_carrier.specs.Port.{reader_spec, ReaderStands, writer_spec, WriterStands}
 use Rattle.mb_carrier.specs.declared.spec.Spec.{Spec}
-use Rattle.mb_carrier.proofs.SpecLaws.{reads, converted-stays, converted-closes, whole-read}
+use Rattle.mb_carrier.proofs.SpecLaws.{reads, converted-stays, converted-closes}
 use Rattle.mb_carrier.proofs.ListLemmas.{front-lines}
 use Rattle.mb_carrier.proofs.MomentLemmas.{listed-known, listed_so_far-known, not-noted, is-noted}
 use Rattle.mb_top.specs.Command.{Command, Converting, Listing, IsBuilt}
-use Rattle.mb_top.specs.Output.{source_of, output_of, live_output_of}
+use Rattle.mb_top.specs.Output.{output_of, live_output_of}
 use Rattle.mb_top.specs.Job.{job_command, JobStands, JobFed, JobHalted, JobEnded, JobEndHalted, Remarked}
 use Rattle.mb_top.specs.declared.hop.Hop.{Hop}
 use Rattle.mb_top.specs.declared.job.Job.{Job}
@@ -24,41 +24,37 @@ use Rattle.mb_top.specs.declared.job.Job.TheVariants as job
 use Rattle.mb_top.specs.declared.listing.Listing as lister
 
 -- a front of lines, said of what is known
-pub at-known : (traced : Bool) (s : Spec) → IsRead s → (given bytes more : List ℕ) →
+pub at-known : (traced : Bool) (s : Spec) (given bytes more : List ℕ) →
     IsFront (lines_known traced (known s bytes) ++ given) (lines_known traced (known s more)) → IsFront (listed_so_far traced s bytes ++ given) (listed_so_far traced s more)
-at-known traced s r given bytes more f = (f.0, listed_so_far-known traced s r more ∙ (f.1 ∙ ap (λ xs. (xs ++ given) ++ f.0) (sym (listed_so_far-known traced s r bytes))))
+at-known traced s given bytes more f = (f.0, listed_so_far-known traced s more ∙ (f.1 ∙ ap (λ xs. (xs ++ given) ++ f.0) (sym (listed_so_far-known traced s bytes))))
 
-at-end : (traced : Bool) (s : Spec) → IsRead s → (given bytes : List ℕ) → IsFront given (lines_told traced (end_told s bytes)) → IsFront (listed_so_far traced s bytes ++ given) (listed traced s bytes)
-at-end traced s r given bytes f = (
+at-end : (traced : Bool) (s : Spec) (given bytes : List ℕ) → IsFront given (lines_told traced (end_told s bytes)) → IsFront (listed_so_far traced s bytes ++ given) (listed traced s bytes)
+at-end traced s given bytes f = (
   f.0,
-  listed-known traced s r bytes
-      ∙ (ap (λ xs. lines_known traced (known s bytes) ++ xs) f.1 ∙ (sym (append_assoc (lines_known traced (known s bytes)) given f.0) ∙ ap (λ xs. (xs ++ given) ++ f.0) (sym (listed_so_far-known traced s r bytes)))),
+  listed-known traced s bytes
+      ∙ (ap (λ xs. lines_known traced (known s bytes) ++ xs) f.1 ∙ (sym (append_assoc (lines_known traced (known s bytes)) given f.0) ∙ ap (λ xs. (xs ++ given) ++ f.0) (sym (listed_so_far-known traced s bytes)))),
 )
 
 pub command-stays : (c : Command) → IsBuilt c → (bytes more : List ℕ) → IsFront (live_output_of c bytes) (live_output_of c (bytes ++ more))
 command-stays (Converting first between last) built bytes more = by_between between built.1
   where
     by_between : (b : List Spec) → b ≡ [] → IsFront (live_output_of (Converting first b last) bytes) (live_output_of (Converting first b last) (bytes ++ more))
-    by_between [] e = converted-stays first last built.0 bytes more
+    by_between [] e = converted-stays first last bytes more
     by_between (x ∷ xs) e = cc
 command-stays (Listing traced s) built bytes more =
-    let f = front-lines traced (known s bytes) (known s (bytes ++ more)) ((reads s built).stays bytes more) in
-    (f.0, listed_so_far-known traced s built (bytes ++ more) ∙ (f.1 ∙ ap (λ xs. xs ++ f.0) (sym (listed_so_far-known traced s built bytes))))
+    let f = front-lines traced (known s bytes) (known s (bytes ++ more)) ((reads s).stays bytes more) in
+    (f.0, listed_so_far-known traced s (bytes ++ more) ∙ (f.1 ∙ ap (λ xs. xs ++ f.0) (sym (listed_so_far-known traced s bytes))))
 
 pub command-closes : (c : Command) → IsBuilt c → (bytes : List ℕ) → IsFront (live_output_of c bytes) (output_of c bytes)
 command-closes (Converting first between last) built bytes = by_between between built.1
   where
     by_between : (b : List Spec) → b ≡ [] → IsFront (live_output_of (Converting first b last) bytes) (output_of (Converting first b last) bytes)
-    by_between [] e = converted-closes first last built.0 bytes
+    by_between [] e = converted-closes first last bytes
     by_between (x ∷ xs) e = cc
 command-closes (Listing traced s) built bytes = (
   lines_told traced (end_told s bytes),
-  listed-known traced s built bytes ∙ ap (λ xs. xs ++ lines_told traced (end_told s bytes)) (sym (listed_so_far-known traced s built bytes)),
+  listed-known traced s bytes ∙ ap (λ xs. xs ++ lines_told traced (end_told s bytes)) (sym (listed_so_far-known traced s bytes)),
 )
-
-pub command-whole : (c : Command) → IsBuilt c → (bytes : List ℕ) → whole (source_of c) bytes ≡ true
-command-whole (Converting first between last) built bytes = whole-read first built.0 bytes
-command-whole (Listing traced s) built bytes = whole-read s built bytes
 
 -- a hop
 
@@ -80,71 +76,71 @@ hop-end_halted s t reader writer took e = record { given = e.given; took_it = e.
 
 -- a listing
 
-pub list-fed : (s : Spec) (traced : Bool) (reader reader_now : List ℕ → List Known → Type 0) (noted noted_now : Bool) (piece : List ℕ) (took : List ℕ → Type 0) → IsRead s →
+pub list-fed : (s : Spec) (traced : Bool) (reader reader_now : List ℕ → List Known → Type 0) (noted noted_now : Bool) (piece : List ℕ) (took : List ℕ → Type 0) →
     ListFed s traced reader reader_now noted noted_now piece took → JobFed (Listing traced s) (ListStands s reader noted) (ListStands s reader_now noted_now) piece took
-list-fed s traced reader reader_now noted noted_now piece took r f =
+list-fed s traced reader reader_now noted noted_now piece took f =
     record {
       given = f.given;
       took_it = f.took_it;
       stands = f.stands;
-      beyond = λ bytes h. listed_so_far-known traced s r (bytes ++ piece) ∙ (f.beyond bytes h ∙ ap (λ xs. xs ++ f.given) (sym (listed_so_far-known traced s r bytes)));
+      beyond = λ bytes h. listed_so_far-known traced s (bytes ++ piece) ∙ (f.beyond bytes h ∙ ap (λ xs. xs ++ f.given) (sym (listed_so_far-known traced s bytes)));
     }
 
-pub list-halted : (s : Spec) (traced : Bool) (reader : List ℕ → List Known → Type 0) (noted : Bool) (piece : List ℕ) (took : List ℕ → Type 0) → IsRead s →
+pub list-halted : (s : Spec) (traced : Bool) (reader : List ℕ → List Known → Type 0) (noted : Bool) (piece : List ℕ) (took : List ℕ → Type 0) →
     ListHalted s traced reader noted piece took → JobHalted (Listing traced s) (ListStands s reader noted) piece took
-list-halted s traced reader noted piece took r f =
-    record { given = f.given; took_it = f.took_it; front = λ bytes h. at-known traced s r f.given bytes (bytes ++ piece) (f.front bytes h) }
+list-halted s traced reader noted piece took f =
+    record { given = f.given; took_it = f.took_it; front = λ bytes h. at-known traced s f.given bytes (bytes ++ piece) (f.front bytes h) }
 
-remarked : (s : Spec) (traced noted : Bool) → IsRead s → (bytes : List ℕ) → noted ≡ has_notes (told_of (known s bytes) ++ end_told s bytes) → Remarked (noted && not traced) (Listing traced s) bytes
-remarked s true true r bytes e = tt
-remarked s true false r bytes e = tt
-remarked s false true r bytes e = is-noted s r bytes (sym e)
-remarked s false false r bytes e = not-noted s r bytes (sym e)
+remarked : (s : Spec) (traced noted : Bool) (bytes : List ℕ) → noted ≡ has_notes (told_of (known s bytes) ++ end_told s bytes) → Remarked (noted && not traced) (Listing traced s) bytes
+remarked s true true bytes e = tt
+remarked s true false bytes e = tt
+remarked s false true bytes e = is-noted s bytes (sym e)
+remarked s false false bytes e = not-noted s bytes (sym e)
 
-pub list-ended : (s : Spec) (traced : Bool) (reader : List ℕ → List Known → Type 0) (noted noted_now : Bool) (took : List ℕ → Type 0) → IsRead s →
+pub list-ended : (s : Spec) (traced : Bool) (reader : List ℕ → List Known → Type 0) (noted noted_now : Bool) (took : List ℕ → Type 0) →
     ListEnded s traced reader noted noted_now took → JobEnded (Listing traced s) (ListStands s reader noted) (noted_now && not traced) took
-list-ended s traced reader noted noted_now took r e =
+list-ended s traced reader noted noted_now took e =
     record {
       given = e.given;
       took_it = e.took_it;
       beyond = λ bytes h.
-          listed-known traced s r bytes
-          ∙ (ap (λ xs. lines_known traced (known s bytes) ++ xs) (e.beyond bytes h) ∙ ap (λ xs. xs ++ e.given) (sym (listed_so_far-known traced s r bytes)));
-      notes = λ bytes h. remarked s traced noted_now r bytes (e.notes bytes h);
+          listed-known traced s bytes
+          ∙ (ap (λ xs. lines_known traced (known s bytes) ++ xs) (e.beyond bytes h) ∙ ap (λ xs. xs ++ e.given) (sym (listed_so_far-known traced s bytes)));
+      notes = λ bytes h. remarked s traced noted_now bytes (e.notes bytes h);
     }
 
-pub list-end_halted : (s : Spec) (traced : Bool) (reader : List ℕ → List Known → Type 0) (noted : Bool) (took : List ℕ → Type 0) → IsRead s →
+pub list-end_halted : (s : Spec) (traced : Bool) (reader : List ℕ → List Known → Type 0) (noted : Bool) (took : List ℕ → Type 0) →
     ListEndHalted s traced reader noted took → JobEndHalted (Listing traced s) (ListStands s reader noted) took
-list-end_halted s traced reader noted took r e = record { given = e.given; took_it = e.took_it; front = λ bytes h. at-end traced s r e.given bytes (e.front bytes h) }
+list-end_halted s traced reader noted took e = record { given = e.given; took_it = e.took_it; front = λ bytes h. at-end traced s e.given bytes (e.front bytes h) }
 
 -- the same of a job
 
-pub job-list_fed : {T E : Type 0} (r : Result T E) (j : Job) (old new : lister.Listing) (piece : List ℕ) (took : List ℕ → Type 0) → IsBuilt (job_command j) → j ≡ job.List old → reader_spec new.reader ≡ reader_spec old.reader →
+pub job-list_fed : {T E : Type 0} (r : Result T E) (j : Job) (old new : lister.Listing) (piece : List ℕ) (took : List ℕ → Type 0) → j ≡ job.List old → reader_spec new.reader ≡ reader_spec old.reader →
     OnOk r (ListFed (reader_spec old.reader) old.traced (ReaderStands old.reader) (ReaderStands new.reader) old.noted new.noted piece took) →
     OnOk r (JobFed (job_command j) (JobStands j) (JobStands (job.List new)) piece took)
-job-list_fed r j old new piece took built e same f =
+job-list_fed r j old new piece took e same f =
     subst (λ (x : Job). OnOk r (JobFed (job_command x) (JobStands x) (JobStands (job.List new)) piece took)) (sym e)
     (on_ok_weaker r (λ fed. subst (λ (s : Spec). JobFed (Listing old.traced (reader_spec old.reader)) (JobStands (job.List old)) (ListStands s (ReaderStands new.reader) new.noted) piece took) (sym same)
-    (list-fed (reader_spec old.reader) old.traced (ReaderStands old.reader) (ReaderStands new.reader) old.noted new.noted piece took (subst (λ (x : Job). IsBuilt (job_command x)) e built) fed)) f)
+    (list-fed (reader_spec old.reader) old.traced (ReaderStands old.reader) (ReaderStands new.reader) old.noted new.noted piece took fed)) f)
 
-pub job-list_halted : {T E : Type 0} (r : Result T E) (j : Job) (old : lister.Listing) (piece : List ℕ) (took : List ℕ → Type 0) → IsBuilt (job_command j) → j ≡ job.List old →
+pub job-list_halted : {T E : Type 0} (r : Result T E) (j : Job) (old : lister.Listing) (piece : List ℕ) (took : List ℕ → Type 0) → j ≡ job.List old →
     OnErr r (ListHalted (reader_spec old.reader) old.traced (ReaderStands old.reader) old.noted piece took) → OnErr r (JobHalted (job_command j) (JobStands j) piece took)
-job-list_halted r j old piece took built e f =
+job-list_halted r j old piece took e f =
     subst (λ (x : Job). OnErr r (JobHalted (job_command x) (JobStands x) piece took)) (sym e)
-    (on_err_weaker r (λ halted. list-halted (reader_spec old.reader) old.traced (ReaderStands old.reader) old.noted piece took (subst (λ (x : Job). IsBuilt (job_command x)) e built) halted) f)
+    (on_err_weaker r (λ halted. list-halted (reader_spec old.reader) old.traced (ReaderStands old.reader) old.noted piece took halted) f)
 
-pub job-list_ended : (j : Job) (old new : lister.Listing) (noted : Bool) (took : List ℕ → Type 0) → IsBuilt (job_command j) → j ≡ job.List old → new.traced ≡ old.traced → noted ≡ new.noted && not new.traced →
+pub job-list_ended : (j : Job) (old new : lister.Listing) (noted : Bool) (took : List ℕ → Type 0) → j ≡ job.List old → new.traced ≡ old.traced → noted ≡ new.noted && not new.traced →
     ListEnded (reader_spec old.reader) old.traced (ReaderStands old.reader) old.noted new.noted took → JobEnded (job_command j) (JobStands j) noted took
-job-list_ended j old new noted took built e traced same f =
+job-list_ended j old new noted took e traced same f =
     subst (λ (x : Job). JobEnded (job_command x) (JobStands x) noted took) (sym e)
     (subst (λ (b : Bool). JobEnded (Listing old.traced (reader_spec old.reader)) (JobStands (job.List old)) b took) (sym (same ∙ ap (λ (t : Bool). new.noted && not t) traced))
-    (list-ended (reader_spec old.reader) old.traced (ReaderStands old.reader) old.noted new.noted took (subst (λ (x : Job). IsBuilt (job_command x)) e built) f))
+    (list-ended (reader_spec old.reader) old.traced (ReaderStands old.reader) old.noted new.noted took f))
 
-pub job-list_end_halted : (j : Job) (old : lister.Listing) (took : List ℕ → Type 0) → IsBuilt (job_command j) → j ≡ job.List old →
+pub job-list_end_halted : (j : Job) (old : lister.Listing) (took : List ℕ → Type 0) → j ≡ job.List old →
     ListEndHalted (reader_spec old.reader) old.traced (ReaderStands old.reader) old.noted took → JobEndHalted (job_command j) (JobStands j) took
-job-list_end_halted j old took built e f =
+job-list_end_halted j old took e f =
     subst (λ (x : Job). JobEndHalted (job_command x) (JobStands x) took) (sym e)
-    (list-end_halted (reader_spec old.reader) old.traced (ReaderStands old.reader) old.noted took (subst (λ (x : Job). IsBuilt (job_command x)) e built) f)
+    (list-end_halted (reader_spec old.reader) old.traced (ReaderStands old.reader) old.noted took f)
 
 pub job-hop_end_halted : (j : Job) (old : Hop) (took : List ℕ → Type 0) → j ≡ job.Convert old →
     EndHalted (reader_spec old.reader) (writer_spec old.writer) (ReaderStands old.reader) (WriterStands old.writer) took → JobEndHalted (job_command j) (JobStands j) took

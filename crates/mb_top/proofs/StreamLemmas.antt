@@ -1,17 +1,26 @@
 -- A command on its way, over a desk that tells its contents.
-use Rattle.std.proofs.Common.{◌≡◌, Bool, IsTrue, ℕ, ◌+◌, ◌-◌, ◌<◌, ◌≤◌, true, false, List, [], ◌∷◌, ◌++◌, length, take, drop, refl, sym, ◌∙◌, ap, subst, append_assoc, arith, length-append, length-drop}
+use Rattle.std.proofs.Common.{◌≡◌, Bool, IsTrue, ℕ, ◌+◌, ◌-◌, ◌<◌, ◌≤◌, true, false, not, List, [], ◌∷◌, ◌++◌, length, take, drop, refl, sym, ◌∙◌, ap, subst, append_assoc, arith, length-append, length-drop}
 use Rattle.std.proofs.lemmas.List.{append-nil, take-append-drop, take_at, drop_at, length-take-le, take-append-le}
 use Rattle.mb_outside.specs.Contents.{Contents, Gives, after_read, after_write}
 use Rattle.mb_outside.specs.ContentsLaws.{after_read-none, after_read-twice, after_write-twice}
 use Rattle.mb_outside.specs.Taking.{IsFront, Wrote}
+use Rattle.mb_carrier.specs.Carrier.{whole}
 use Rattle.mb_carrier.proofs.SpecLaws.{front-trans}
-use Rattle.mb_top.proofs.JobLemmas.{command-stays, command-closes, command-whole}
+use Rattle.mb_top.proofs.JobLemmas.{command-stays, command-closes}
 use Rattle.mb_top.specs.Command.{Command, IsBuilt}
-use Rattle.mb_top.specs.Output.{output_of, live_output_of, HasNoNotes}
+use Rattle.mb_top.specs.Output.{source_of, output_of, live_output_of}
 use Rattle.mb_top.specs.Job.{JobFed, JobHalted, JobEnded, JobEndHalted, Remarked}
-use Rattle.mb_top.specs.Answer.{Ran, EndsAs, WentThrough, all_but_last, PIECE}
+use Rattle.mb_top.specs.Answer.{Ran, EndsAs, WentThrough, at_end, all_but_last, PIECE}
 use Rattle.mb_top.specs.declared.status.Status.{Status}
-use Rattle.mb_top.specs.declared.status.Status.TheVariants.{Done, Noted, ReadFault, WriteFault, TooLong}
+use Rattle.mb_top.specs.declared.status.Status.TheVariants.{ReadFault, WriteFault, TooLong}
+
+not-true : (b : Bool) → true ≡ not b → b ≡ false
+not-true true e = cc
+not-true false e = refl
+
+not-false : (b : Bool) → false ≡ not b → b ≡ true
+not-false true e = refl
+not-false false e = cc
 
 -- these bytes were read, and what is known of them was written
 pub record SoFar (c : Command) (before now : Contents) (bytes : List ℕ) : Type 0 where
@@ -83,10 +92,6 @@ at-end c before old now bytes buffer count s g none room = (
   (s.front).1 ∙ (ap (λ xs. bytes ++ xs) (sym (left-now c before old bytes s) ∙ g.ends none room) ∙ append-nil bytes),
 )
 
-went_through : (c : Command) (limit : ℕ) (left bytes given : List ℕ) → IsBuilt c → length bytes < limit → left ≡ bytes →
-    output_of c bytes ≡ live_output_of c bytes ++ given → WentThrough c limit left bytes (live_output_of c bytes ++ given)
-went_through c limit left bytes given built below all beyond = record { all = all; below = below; is_whole = command-whole c built bytes; output_is = sym beyond }
-
 ran-through : (c : Command) (limit : ℕ) (before old now : Contents) (bytes given : List ℕ) (status : Status) →
     length bytes < limit → SoFar c before old bytes → now ≡ after_write 1 given old →
     EndsAs c limit (before.left 0) bytes (live_output_of c bytes ++ given) status → Ran c limit before now status
@@ -100,19 +105,24 @@ ran-through c limit before old now bytes given status below s wrote ends =
       ends = ends;
     }
 
-pub ran-done : (c : Command) (limit : ℕ) (before old now : Contents) (bytes : List ℕ) (was : List ℕ → Type 0) (noted : Bool) (took : List ℕ → Type 0) →
-    IsBuilt c → length bytes < limit → SoFar c before old bytes → before.left 0 ≡ bytes → noted ≡ false → was bytes →
-    (e : JobEnded c was noted took) → now ≡ after_write 1 e.given old → Ran c limit before now Done
-ran-done c limit before old now bytes was noted took built below s all quiet stands e wrote =
-    ran-through c limit before old now bytes e.given Done below s wrote
-    (went_through c limit (before.left 0) bytes e.given built below all (e.beyond bytes stands), subst (λ (b : Bool). Remarked b c bytes) quiet (e.notes bytes stands))
+-- the answer at the end, by whether the input is cut and whether it was remarked
+ends-at : (c : Command) (limit : ℕ) (left input output : List ℕ) (cut noted : Bool) → WentThrough c limit left input output → cut ≡ not (whole (source_of c) input) →
+    Remarked noted c input → EndsAs c limit left input output (at_end cut noted)
+ends-at c limit left input output true noted w is_cut remarked = (w, not-true (whole (source_of c) input) is_cut)
+ends-at c limit left input output false true w is_cut remarked = (w, not-false (whole (source_of c) input) is_cut, remarked)
+ends-at c limit left input output false false w is_cut remarked = (w, not-false (whole (source_of c) input) is_cut, remarked)
 
-pub ran-noted : (c : Command) (limit : ℕ) (before old now : Contents) (bytes : List ℕ) (was : List ℕ → Type 0) (noted : Bool) (took : List ℕ → Type 0) →
-    IsBuilt c → length bytes < limit → SoFar c before old bytes → before.left 0 ≡ bytes → noted ≡ true → was bytes →
-    (e : JobEnded c was noted took) → now ≡ after_write 1 e.given old → Ran c limit before now Noted
-ran-noted c limit before old now bytes was noted took built below s all remarked stands e wrote =
-    ran-through c limit before old now bytes e.given Noted below s wrote
-    (went_through c limit (before.left 0) bytes e.given built below all (e.beyond bytes stands), subst (λ (b : Bool). Remarked b c bytes) remarked (e.notes bytes stands))
+pub ran-ended : (c : Command) (limit : ℕ) (before old now : Contents) (bytes : List ℕ) (was : List ℕ → Type 0) (cut noted : Bool) (took : List ℕ → Type 0) (status : Status) →
+    length bytes < limit → SoFar c before old bytes → before.left 0 ≡ bytes → status ≡ at_end cut noted → was bytes → cut ≡ not (whole (source_of c) bytes) →
+    (e : JobEnded c was noted took) → now ≡ after_write 1 e.given old → Ran c limit before now status
+ran-ended c limit before old now bytes was cut noted took status below s all same stands is_cut e wrote =
+    let w : WentThrough c limit (before.left 0) bytes (live_output_of c bytes ++ e.given) = record { all = all; below = below; output_is = sym (e.beyond bytes stands) } in
+    ran-through c limit before old now bytes e.given status below s wrote
+    (subst (λ (x : Status). EndsAs c limit (before.left 0) bytes (live_output_of c bytes ++ e.given) x) (sym same)
+    (ends-at c limit (before.left 0) bytes (live_output_of c bytes ++ e.given) cut noted w is_cut (e.notes bytes stands)))
+
+pub cut-at : (d c : Command) (cut : Bool) (bytes : List ℕ) → d ≡ c → cut ≡ not (whole (source_of d) bytes) → cut ≡ not (whole (source_of c) bytes)
+cut-at d c cut bytes same h = h ∙ ap (λ (x : Command). not (whole (source_of x) bytes)) same
 
 -- a front of some bytes is written in what is written of them
 live-front : (c : Command) → IsBuilt c → (p bytes : List ℕ) → IsFront p bytes → IsFront (live_output_of c p) (live_output_of c bytes)

@@ -2,6 +2,7 @@
 --
 --   code_of, text_of       of an answer, its number, and the text on standard error
 --   taken_off, added_to    what a call took off a handle, and what it wrote to one
+--   at_end, read_all       the answers at the end of the input: all of it was read
 --   Ends ..                what an answer says of the bytes left at first, those read and those written
 --   Answered ..            all that a call did to the desk
 use Rattle.std.specs.Prelude.{◌≡◌, ℕ, ◌+◌, ◌-◌, ◌<◌, ◌≤◌, Bool, true, false, ◌==◌, List, [], ◌∷◌, ◌++◌, length, take, drop, ◌⊎◌, codes}
@@ -13,7 +14,7 @@ use Rattle.mb_carrier.specs.Carrier.{whole}
 use Rattle.mb_top.specs.Command.{Command, Means}
 use Rattle.mb_top.specs.Output.{source_of, output_of, live_output_of, HasNotes, HasNoNotes}
 use Rattle.mb_top.specs.declared.status.Status.{Status}
-use Rattle.mb_top.specs.declared.status.Status.TheVariants.{Done, Noted, Usage, ReadFault, WriteFault, TooLong, NoMemory}
+use Rattle.mb_top.specs.declared.status.Status.TheVariants.{Done, Noted, Usage, ReadFault, WriteFault, Cut, TooLong, NoMemory}
 
 abbrev pub code_of : Status → ℕ
 code_of Done = 0
@@ -21,6 +22,7 @@ code_of Noted = 1
 code_of Usage = 2
 code_of ReadFault = 3
 code_of WriteFault = 4
+code_of Cut = 5
 code_of TooLong = 8
 code_of NoMemory = 9
 
@@ -30,6 +32,7 @@ text_of Noted = []
 text_of Usage = codes "usage: midibridge convert [tally] SPEC SPEC .. / trace SPEC / check SPEC / run RIGFILE / selftest START COUNT\n"
 text_of ReadFault = codes "read fault\n"
 text_of WriteFault = codes "write fault\n"
+text_of Cut = codes "input is cut\n"
 text_of TooLong = codes "input is too long\n"
 text_of NoMemory = codes "no memory\n"
 
@@ -51,17 +54,17 @@ all_but_last n bytes = take (length bytes - n) bytes
 pub record WentThrough (c : Command) (limit : ℕ) (left input output : List ℕ) : Type 0 where
   pub all : left ≡ input
   pub below : length input < limit
-  pub is_whole : whole (source_of c) input ≡ true
   pub output_is : output ≡ output_of c input
 
 -- What a command did, by its answer. At a fault the part that was known is written in full, or a front of the output that
 -- lacks at most what the last read gave.
 abbrev pub EndsAs : Command → (limit : ℕ) → (left input output : List ℕ) → Status → Type 0
-EndsAs c limit left input output Done = WentThrough c limit left input output × HasNoNotes c input
-EndsAs c limit left input output Noted = WentThrough c limit left input output × HasNotes c input
+EndsAs c limit left input output Done = WentThrough c limit left input output × (whole (source_of c) input ≡ true) × HasNoNotes c input
+EndsAs c limit left input output Noted = WentThrough c limit left input output × (whole (source_of c) input ≡ true) × HasNotes c input
 EndsAs c limit left input output Usage = ⊥
 EndsAs c limit left input output ReadFault = output ≡ live_output_of c input
 EndsAs c limit left input output WriteFault = IsFront output (output_of c input) × IsFront (live_output_of c (all_but_last PIECE input)) output
+EndsAs c limit left input output Cut = WentThrough c limit left input output × (whole (source_of c) input ≡ false)
 EndsAs c limit left input output TooLong = (length input ≡ limit) × (output ≡ live_output_of c input)
 EndsAs c limit left input output NoMemory = (input ≡ []) × (output ≡ [])
 
@@ -127,6 +130,16 @@ abbrev pub is_usage : Status → Bool
 is_usage Usage = true
 is_usage _ = false
 
+-- how a command ends at the end of its input
+abbrev pub at_end : (cut noted : Bool) → Status
+at_end true noted = Cut
+at_end false true = Noted
+at_end false false = Done
+
 -- the answers that there are
 abbrev pub is_answer : ℕ → Bool
-is_answer n = list_any (λ code. code == n) (0 ∷ 1 ∷ 2 ∷ 3 ∷ 4 ∷ 8 ∷ [])
+is_answer n = list_any (λ code. code == n) (0 ∷ 1 ∷ 2 ∷ 3 ∷ 4 ∷ 5 ∷ 8 ∷ [])
+
+-- the answers that come at the end of the input
+abbrev pub read_all : ℕ → Bool
+read_all n = list_any (λ code. code == n) (0 ∷ 1 ∷ 5 ∷ [])

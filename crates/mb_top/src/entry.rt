@@ -11,8 +11,8 @@ ghost use Rattle.mb_carrier.specs.declared.spec.Spec.{Spec};
 ghost use Rattle.mb_carrier.specs.declared.spec.Spec.TheVariants.{Din};
 ghost use Rattle.mb_top.specs.Command as words_mean;
 ghost use Rattle.mb_top.specs.Command.{Converting, Listing, Means};
-ghost use Rattle.mb_top.specs.Output.{HasNotes, HasNoNotes};
-ghost use Rattle.mb_top.specs.Answer.{Answered, RanWords, HasFault, Says, taken_off, added_to, is_answer, wants_memory};
+ghost use Rattle.mb_top.specs.Output.{source_of, HasNotes, HasNoNotes};
+ghost use Rattle.mb_top.specs.Answer.{Answered, RanWords, HasFault, Says, taken_off, added_to, is_answer, read_all, wants_memory};
 ghost use Rattle.mb_top.specs.declared.status.Status.TheVariants as status;
 
 use crate::command::Command;
@@ -25,34 +25,38 @@ use std::alloc::Global;
 pub const LIMIT: u64 = 1 << 40;
 
 /// Does all that the program does, and answers its exit status: 0 all was done, 1 `check` found notes, 2 the
-/// words are no command, 3 reading failed, 4 writing failed, 8 as many bytes as the limit were read.
+/// words are no command, 3 reading failed, 4 writing failed, 5 the input stops inside a packet, 8 as many bytes as the limit
+/// were read.
 pub fn bridge<D: Desk>(alloc: Global, words: &Args, desk: &mut D) -> u8
     // All that it does to a desk that tells its contents: nothing but what the answer says.
     ensures contents { IsTrue D.tells → Answered words.now (2 ^ 40) (D.contents desk.old) (D.contents desk.new) (D.write_faults desk.old) (D.write_faults desk.new) result }
 
     // What was written denotes on its port exactly what the bytes read denote on theirs.
-    ensures headline { (first : Spec) (between : List Spec) (last : Spec) → IsTrue D.tells → Means words.now (Converting first between last) → result ≡ 0 →
+    ensures headline { (first : Spec) (between : List Spec) (last : Spec) → IsTrue D.tells → Means words.now (Converting first between last) → read_all result ≡ true →
         den last (added_to 1 (D.contents desk.old) (D.contents desk.new)) ≡ den first (taken_off 0 (D.contents desk.old) (D.contents desk.new)) }
 
     // All of the input was read, and its conversion written.
-    ensures exact { (first : Spec) (between : List Spec) (last : Spec) → IsTrue D.tells → Means words.now (Converting first between last) → result ≡ 0 →
+    ensures exact { (first : Spec) (between : List Spec) (last : Spec) → IsTrue D.tells → Means words.now (Converting first between last) → read_all result ≡ true →
         added_to 1 (D.contents desk.old) (D.contents desk.new) ≡ through first between last ((D.contents desk.old).left 0) }
 
     // What was written has no note and ends behind a whole packet.
-    ensures clean { (first : Spec) (between : List Spec) (last : Spec) → IsTrue D.tells → Means words.now (Converting first between last) → result ≡ 0 →
+    ensures clean { (first : Spec) (between : List Spec) (last : Spec) → IsTrue D.tells → Means words.now (Converting first between last) → read_all result ≡ true →
         notes_of last (added_to 1 (D.contents desk.old) (D.contents desk.new)) ≡ [] }
-    ensures whole { (first : Spec) (between : List Spec) (last : Spec) → IsTrue D.tells → Means words.now (Converting first between last) → result ≡ 0 →
+    ensures whole { (first : Spec) (between : List Spec) (last : Spec) → IsTrue D.tells → Means words.now (Converting first between last) → read_all result ≡ true →
         whole last (added_to 1 (D.contents desk.old) (D.contents desk.new)) ≡ true }
 
     // What is written as a byte line is read and written again as it is.
-    ensures canonical { (first : Spec) (between : List Spec) → IsTrue D.tells → Means words.now (Converting first between Din) → result ≡ 0 →
+    ensures canonical { (first : Spec) (between : List Spec) → IsTrue D.tells → Means words.now (Converting first between Din) → read_all result ≡ true →
         through Din [] Din (added_to 1 (D.contents desk.old) (D.contents desk.new)) ≡ added_to 1 (D.contents desk.old) (D.contents desk.new) }
 
     // `check` and `trace` print the lines of all the input, and `check` answers 1 where it has a note.
-    ensures listed { (traced : Bool) (s : Spec) → IsTrue D.tells → Means words.now (Listing traced s) → result ≤ 1 →
+    ensures listed { (traced : Bool) (s : Spec) → IsTrue D.tells → Means words.now (Listing traced s) → read_all result ≡ true →
         added_to 1 (D.contents desk.old) (D.contents desk.new) ≡ listed traced s ((D.contents desk.old).left 0) }
     ensures no_note { (c : words_mean.Command) → IsTrue D.tells → Means words.now c → result ≡ 0 → HasNoNotes c ((D.contents desk.old).left 0) }
     ensures a_note { (c : words_mean.Command) → IsTrue D.tells → Means words.now c → result ≡ 1 → HasNotes c ((D.contents desk.old).left 0) }
+
+    // It answers 5 exactly where all of the input was read and stops inside a packet.
+    ensures cut { (c : words_mean.Command) → IsTrue D.tells → Means words.now c → read_all result ≡ true → (result ≡ 5) ↔ (whole (source_of c) ((D.contents desk.old).left 0) ≡ false) }
 
     // Each answer has its cause, for every desk.
     ensures answers { is_answer result ≡ true }
@@ -60,10 +64,15 @@ pub fn bridge<D: Desk>(alloc: Global, words: &Args, desk: &mut D) -> u8
     ensures read_fault { result ≡ 3 → Rose (D.read_faults desk.old) (D.read_faults desk.new) }
     ensures write_fault { result ≡ 4 → Rose (D.write_faults desk.old) (D.write_faults desk.new) }
 
-    // It answers 0 for every whole input.
+    // It answers 0 for every whole input that is converted.
     ensures complete { (first : Spec) (between : List Spec) (last : Spec) → IsTrue D.tells → Means words.now (Converting first between last) →
         (Rose (D.read_faults desk.old) (D.read_faults desk.new) → ⊥) → (Rose (D.write_faults desk.old) (D.write_faults desk.new) → ⊥) →
         length ((D.contents desk.old).left 0) < 2 ^ 40 → whole first ((D.contents desk.old).left 0) ≡ true → result ≡ 0 }
+
+    // Whatever the command, all of a short enough input is read where no call failed.
+    ensures reads_all { (c : words_mean.Command) → IsTrue D.tells → Means words.now c →
+        (Rose (D.read_faults desk.old) (D.read_faults desk.new) → ⊥) → (Rose (D.write_faults desk.old) (D.write_faults desk.new) → ⊥) →
+        length ((D.contents desk.old).left 0) < 2 ^ 40 → read_all result ≡ true }
 {
     bridge_within(alloc, words, desk, LIMIT)
 }
@@ -77,28 +86,31 @@ pub fn bridge_within<D: Desk>(alloc: Global, words: &Args, desk: &mut D, limit: 
     ensures contents { IsTrue D.tells → Answered words.now limit (D.contents desk.old) (D.contents desk.new) (D.write_faults desk.old) (D.write_faults desk.new) result }
 
     // What was written denotes on its port exactly what the bytes read denote on theirs.
-    ensures headline { (first : Spec) (between : List Spec) (last : Spec) → IsTrue D.tells → Means words.now (Converting first between last) → result ≡ 0 →
+    ensures headline { (first : Spec) (between : List Spec) (last : Spec) → IsTrue D.tells → Means words.now (Converting first between last) → read_all result ≡ true →
         den last (added_to 1 (D.contents desk.old) (D.contents desk.new)) ≡ den first (taken_off 0 (D.contents desk.old) (D.contents desk.new)) }
 
     // All of the input was read, and its conversion written.
-    ensures exact { (first : Spec) (between : List Spec) (last : Spec) → IsTrue D.tells → Means words.now (Converting first between last) → result ≡ 0 →
+    ensures exact { (first : Spec) (between : List Spec) (last : Spec) → IsTrue D.tells → Means words.now (Converting first between last) → read_all result ≡ true →
         added_to 1 (D.contents desk.old) (D.contents desk.new) ≡ through first between last ((D.contents desk.old).left 0) }
 
     // What was written has no note and ends behind a whole packet.
-    ensures clean { (first : Spec) (between : List Spec) (last : Spec) → IsTrue D.tells → Means words.now (Converting first between last) → result ≡ 0 →
+    ensures clean { (first : Spec) (between : List Spec) (last : Spec) → IsTrue D.tells → Means words.now (Converting first between last) → read_all result ≡ true →
         notes_of last (added_to 1 (D.contents desk.old) (D.contents desk.new)) ≡ [] }
-    ensures whole { (first : Spec) (between : List Spec) (last : Spec) → IsTrue D.tells → Means words.now (Converting first between last) → result ≡ 0 →
+    ensures whole { (first : Spec) (between : List Spec) (last : Spec) → IsTrue D.tells → Means words.now (Converting first between last) → read_all result ≡ true →
         whole last (added_to 1 (D.contents desk.old) (D.contents desk.new)) ≡ true }
 
     // What is written as a byte line is read and written again as it is.
-    ensures canonical { (first : Spec) (between : List Spec) → IsTrue D.tells → Means words.now (Converting first between Din) → result ≡ 0 →
+    ensures canonical { (first : Spec) (between : List Spec) → IsTrue D.tells → Means words.now (Converting first between Din) → read_all result ≡ true →
         through Din [] Din (added_to 1 (D.contents desk.old) (D.contents desk.new)) ≡ added_to 1 (D.contents desk.old) (D.contents desk.new) }
 
     // `check` and `trace` print the lines of all the input, and `check` answers 1 where it has a note.
-    ensures listed { (traced : Bool) (s : Spec) → IsTrue D.tells → Means words.now (Listing traced s) → result ≤ 1 →
+    ensures listed { (traced : Bool) (s : Spec) → IsTrue D.tells → Means words.now (Listing traced s) → read_all result ≡ true →
         added_to 1 (D.contents desk.old) (D.contents desk.new) ≡ listed traced s ((D.contents desk.old).left 0) }
     ensures no_note { (c : words_mean.Command) → IsTrue D.tells → Means words.now c → result ≡ 0 → HasNoNotes c ((D.contents desk.old).left 0) }
     ensures a_note { (c : words_mean.Command) → IsTrue D.tells → Means words.now c → result ≡ 1 → HasNotes c ((D.contents desk.old).left 0) }
+
+    // It answers 5 exactly where all of the input was read and stops inside a packet.
+    ensures cut { (c : words_mean.Command) → IsTrue D.tells → Means words.now c → read_all result ≡ true → (result ≡ 5) ↔ (whole (source_of c) ((D.contents desk.old).left 0) ≡ false) }
 
     // Each answer has its cause, for every desk.
     ensures answers { is_answer result ≡ true }
@@ -106,10 +118,15 @@ pub fn bridge_within<D: Desk>(alloc: Global, words: &Args, desk: &mut D, limit: 
     ensures read_fault { result ≡ 3 → Rose (D.read_faults desk.old) (D.read_faults desk.new) }
     ensures write_fault { result ≡ 4 → Rose (D.write_faults desk.old) (D.write_faults desk.new) }
 
-    // It answers 0 for every whole input.
+    // It answers 0 for every whole input that is converted.
     ensures complete { (first : Spec) (between : List Spec) (last : Spec) → IsTrue D.tells → Means words.now (Converting first between last) →
         (Rose (D.read_faults desk.old) (D.read_faults desk.new) → ⊥) → (Rose (D.write_faults desk.old) (D.write_faults desk.new) → ⊥) →
         length ((D.contents desk.old).left 0) < limit → whole first ((D.contents desk.old).left 0) ≡ true → result ≡ 0 }
+
+    // Whatever the command, all of a short enough input is read where no call failed.
+    ensures reads_all { (c : words_mean.Command) → IsTrue D.tells → Means words.now c →
+        (Rose (D.read_faults desk.old) (D.read_faults desk.new) → ⊥) → (Rose (D.write_faults desk.old) (D.write_faults desk.new) → ⊥) →
+        length ((D.contents desk.old).left 0) < limit → read_all result ≡ true }
 {
     let status = run(alloc, words, desk, limit);
     say(desk, status.text());

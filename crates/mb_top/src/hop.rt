@@ -1,11 +1,12 @@
 //! What one hop is: a reader, a writer, and a buffer a piece between.
 
-ghost use Rattle.std.specs.Prelude.{◌≡◌, ℕ, ◌+◌, ◌^◌, ◌<◌, List, [], length, IsTrue, IsOk, IfOk, OnOk, OnErr};
+ghost use Rattle.std.specs.Prelude.{◌≡◌, ℕ, ◌+◌, ◌^◌, ◌<◌, not, List, [], length, IsTrue, IsOk, IfOk, OnOk, OnErr};
 ghost use Rattle.mb_outside.specs.Cause.{HasCause};
 ghost use Rattle.mb_outside.specs.Contents.{is_writable};
 ghost use Rattle.mb_outside.specs.Taking.{Wrote};
+ghost use Rattle.mb_carrier.specs.Carrier.{whole};
 ghost use Rattle.mb_carrier.specs.Hop.{Fed, FedHalted, Ended, EndHalted, HopStands};
-ghost use Rattle.mb_carrier.specs.Port.{IsRead, reader_spec, reader_offset, ReaderStands, writer_spec, WriterStands};
+ghost use Rattle.mb_carrier.specs.Port.{reader_spec, reader_offset, ReaderStands, writer_spec, WriterStands};
 ghost use Rattle.mb_carrier.specs.Word.{IsSpec};
 
 use mb_carrier::{PortReader, PortWriter, Spec, feed_hop, finish_hop};
@@ -22,7 +23,7 @@ pub(crate) struct Hop {
 
 impl Hop {
     pub(crate) fn new(alloc: Global, first: Spec, last: Spec) -> Result<Hop, Memory>
-        requires first { IsRead first }
+        requires first { IsSpec first }
         requires last { IsSpec last }
         ensures ok { IfOk result (λ hop. (reader_spec hop.reader ≡ first) × (writer_spec hop.writer ≡ last) × (reader_offset hop.reader ≡ 0)) }
         ensures memory { IsOk result }
@@ -33,6 +34,14 @@ impl Hop {
             reader: PortReader::new(first),
             writer,
         })
+    }
+
+    /// Whether the bytes that were read stop inside a packet.
+    pub(crate) fn is_cut(&self) -> bool
+        ensures { (bytes : List ℕ) → HopStands (reader_spec self.now.reader) (ReaderStands self.now.reader) (WriterStands self.now.writer) bytes →
+            result ≡ not (whole (reader_spec self.now.reader) bytes) }
+    {
+        self.reader.partial()
     }
 
     /// Reads a piece to its end and writes all that it gives to standard output.

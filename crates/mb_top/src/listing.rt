@@ -4,7 +4,9 @@ ghost use Rattle.std.specs.Prelude.{◌≡◌, ℕ, ◌+◌, ◌^◌, ◌<◌, �
 ghost use Rattle.mb_outside.specs.Cause.{HasCause};
 ghost use Rattle.mb_outside.specs.Taking.{Wrote};
 ghost use Rattle.mb_carrier.specs.Listing.{ListStands, ListFed, ListHalted, ListEnded, ListEndHalted};
-ghost use Rattle.mb_carrier.specs.Port.{IsRead, reader_spec, reader_offset, ReaderStands};
+ghost use Rattle.mb_carrier.specs.Carrier.{whole};
+ghost use Rattle.mb_carrier.specs.Word.{IsSpec};
+ghost use Rattle.mb_carrier.specs.Port.{reader_spec, reader_offset, ReaderStands};
 
 use mb_carrier::{PortReader, Spec, list_end, list_hop};
 use mb_outside::{Desk, DeskOut, Refused};
@@ -20,7 +22,7 @@ pub(crate) struct Listing {
 
 impl Listing {
     pub(crate) fn new(spec: Spec, trace: bool) -> Listing
-        requires { IsRead spec }
+        requires { IsSpec spec }
         ensures spec { reader_spec result.reader ≡ spec }
         ensures traced { result.traced ≡ trace }
         ensures noted { result.noted ≡ false }
@@ -39,6 +41,14 @@ impl Listing {
         ensures { result ≡ self.now.noted && not self.now.traced }
     {
         self.noted && !self.traced
+    }
+
+    /// Whether the bytes that were read stop inside a packet.
+    pub(crate) fn is_cut(&self) -> bool
+        ensures { (bytes : List ℕ) → ListStands (reader_spec self.now.reader) (ReaderStands self.now.reader) self.now.noted bytes →
+            result ≡ not (whole (reader_spec self.now.reader) bytes) }
+    {
+        self.reader.partial()
     }
 
     /// Reads a piece to its end and prints all that it gives to standard output.

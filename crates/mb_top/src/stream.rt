@@ -59,9 +59,9 @@ fn stream<D: Desk>(mut job: Job, desk: &mut D, limit: u64) -> Status
             return Status::ReadFault;
         };
         if count == 0 {
+            let cut = job.is_cut();
             return match job.finish(desk) {
-                Ok(true) => Status::Noted,
-                Ok(false) => Status::Done,
+                Ok(noted) => Status::at_end(cut, noted),
                 Err(_) => Status::WriteFault,
             };
         }

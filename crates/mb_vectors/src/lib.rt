@@ -2,10 +2,14 @@
 #![tactic(auto)]
 
 #[cfg(test)]
+mod cables;
+#[cfg(test)]
 mod conversion;
 #[cfg(test)]
 mod faults;
 #[cfg(test)]
 mod listing;
+#[cfg(test)]
+mod ports;
 #[cfg(test)]
 mod row;

@@ -1,22 +1,16 @@
 use Rattle.std.proofs.Common.{◌≡◌, ℕ, ◌<◌, ◌+◌, length, refl, sym, ◌∙◌, ap, subst, arith, length-append}
 use Rattle.std.proofs.lemmas.Grind.{common_steps}
 use Rattle.mb_outside.specs.Contents.{Gives}
-use Rattle.mb_top.proofs.StreamLemmas.{read-piece, at-end, ran-done, ran-noted, ran-end_halted, ran-halted, fed-at, halted-at, ended-at, end_halted-at, piece-is, piece-size, so_far-fed}
+use Rattle.mb_top.proofs.StreamLemmas.{read-piece, at-end, ran-ended, cut-at, ran-end_halted, ran-halted, fed-at, halted-at, ended-at, end_halted-at, piece-is, piece-size, so_far-fed}
 use Rattle.mb_top.proofs.stream.stream.Goals as goal
 
-pub returns-in-Ok-true-clause-ran : goal.returns-in-Ok-true-clause-ran
-returns-in-Ok-true-clause-ran g c = λ tells.
+pub returns-in-Ok-finish-clause-ran : goal.returns-in-Ok-finish-clause-ran
+returns-in-Ok-finish-clause-ran g c = λ tells.
     let fed = c.pieces.invariant.fed in
     let e = at-end _ _ _ _ fed.0 _ c.in-Ok.count (fed.3 tells) (c.in-Ok.ensures.contents tells) c.if-count-eq0.true (grind (arith, common_steps)) in
-    let ended = ended-at _ _ _ _ _ c.pieces.invariant.command c.in-Ok-true.ensures.ended in
-    ran-noted _ _ _ _ _ fed.0 _ _ _ c.requires.built (omega (arith, fed.1)) e.0 e.1 c.in-Ok-true.field-0-test fed.2 ended (ended.took_it.contents_are tells)
-
-pub returns-in-Ok-false-clause-ran : goal.returns-in-Ok-false-clause-ran
-returns-in-Ok-false-clause-ran g c = λ tells.
-    let fed = c.pieces.invariant.fed in
-    let e = at-end _ _ _ _ fed.0 _ c.in-Ok.count (fed.3 tells) (c.in-Ok.ensures.contents tells) c.if-count-eq0.true (grind (arith, common_steps)) in
-    let ended = ended-at _ _ _ _ _ c.pieces.invariant.command c.in-Ok-false.ensures.ended in
-    ran-done _ _ _ _ _ fed.0 _ _ _ c.requires.built (omega (arith, fed.1)) e.0 e.1 c.in-Ok-false.field-0-test fed.2 ended (ended.took_it.contents_are tells)
+    let ended = ended-at _ _ _ _ _ c.pieces.invariant.command c.in-Ok-finish.ensures.ended in
+    let cut = cut-at _ _ _ fed.0 c.pieces.invariant.command (c.is_cut-cut.ensures fed.0 fed.2) in
+    ran-ended _ _ _ _ _ fed.0 _ _ _ _ _ (omega (arith, fed.1)) e.0 e.1 c.at_end.ensures fed.2 cut ended (ended.took_it.contents_are tells)
 
 pub returns-in-Err-clause-ran : goal.returns-in-Err-clause-ran
 returns-in-Err-clause-ran g c = λ tells.

@@ -1,0 +1,223 @@
+//! Recordings of USB-MIDI event packets: what a cable becomes, and what is listed of it.
+
+use crate::row::{ROOM, Row, desk, run, words};
+use mb_top::{LIMIT, bridge};
+use std::test::Fail;
+
+/// What the row shows, the words, the packets, what must come, and the status.
+type Cable<'a> = (&'a str, &'a [&'a str], &'a [u8], &'a [u8], u8);
+
+/// Two cables, and a packet of cable 0 between the bytes of a message on cable 1.
+const TWO_CABLES: &[u8] = &[
+    0x19, 0x90, 0x3c, 0x64, 0x0f, 0xf8, 0, 0, 0x0c, 0xc0, 0x05, 0, 0x1f, 0x40, 0, 0, 0x1f, 0x64, 0,
+    0,
+];
+
+const CONVERTED: &[Cable<'_>] = &[
+    (
+        "a broken dump stays broken",
+        &["convert", "usb:0", "din"],
+        &[0x0f, 0xf0, 0, 0, 0x0f, 0x01, 0, 0, 0x09, 0x90, 0x3c, 0x64],
+        &[0xf0, 0x01, 0x90, 0x3c, 0x64],
+        0,
+    ),
+    (
+        "another cable's status leaves the running status as it is",
+        &["convert", "usb:1", "din"],
+        TWO_CABLES,
+        &[0x90, 0x3c, 0x64, 0x40, 0x64],
+        0,
+    ),
+    (
+        "the other cable of the same recording",
+        &["convert", "usb:0", "din"],
+        TWO_CABLES,
+        &[0xf8, 0xc0, 0x05],
+        0,
+    ),
+    (
+        "a cable becomes another one",
+        &["convert", "usb:1", "usb:0"],
+        TWO_CABLES,
+        &[0x09, 0x90, 0x3c, 0x64, 0x09, 0x90, 0x40, 0x64],
+        0,
+    ),
+    (
+        "a cable that carries nothing",
+        &["convert", "usb:7", "usb:0"],
+        TWO_CABLES,
+        &[],
+        0,
+    ),
+    (
+        "a number that doesn't suit is read all the same",
+        &["convert", "usb:0", "din"],
+        &[0x08, 0x90, 0x3c, 0x64],
+        &[0x90, 0x3c, 0x64],
+        0,
+    ),
+    (
+        "a reserved number carries nothing",
+        &["convert", "usb:0", "din"],
+        &[0, 0x90, 0x3c, 0x64],
+        &[],
+        0,
+    ),
+    (
+        "running data under the number of a dump that goes on",
+        &["convert", "usb:0", "din"],
+        &[0x09, 0x90, 0x3c, 0x64, 0x04, 0x3e, 0x40, 0x3c, 0x0f, 0, 0, 0],
+        &[0x90, 0x3c, 0x64, 0x3e, 0x40, 0x3c, 0x00],
+        0,
+    ),
+    (
+        "single bytes of a dump, and unused bytes that aren't zero",
+        &["convert", "usb:0", "usb:0"],
+        &[
+            0x0f, 0xf0, 0x90, 0x90, 0x0f, 0x01, 0xf7, 0xf7, 0x0f, 0x02, 9, 9, 0x05, 0xf7, 1, 2,
+        ],
+        &[0x04, 0xf0, 0x01, 0x02, 0x05, 0xf7, 0, 0],
+        0,
+    ),
+    (
+        "an unfinished packet's bytes are read as far as they stand",
+        &["convert", "usb:0", "din"],
+        &[0x09, 0x90, 0x3c, 0x64, 0x04, 0xf0, 0x01],
+        &[0x90, 0x3c, 0x64, 0xf0, 0x01],
+        5,
+    ),
+];
+
+const LISTED: &[Cable<'_>] = &[
+    (
+        "a dump over three packets, a clock inside, another cable between",
+        &["trace", "usb:3"],
+        &[
+            0x34, 0xf0, 0x01, 0x02, 0x24, 0xf0, 0x03, 0x04, 0x3f, 0xf8, 0, 0, 0x35, 0xf7, 0, 0,
+        ],
+        b"0 open\n0 data 01\n0 data 02\n0 rt F8\n0 end\n",
+        0,
+    ),
+    (
+        "notes on packets are told whatever the cable",
+        &["check", "usb:0"],
+        &[0x10, 0xf8, 0, 0, 0xf4, 0x90, 0x3c, 0x64],
+        b"0 reserved-cin\n4 cin-mismatch\n",
+        1,
+    ),
+    (
+        "a mismatch is noted at its packet",
+        &["check", "usb:0"],
+        &[0x09, 0x90, 0x3c, 0x64, 0x08, 0x90, 0x3c, 0x64],
+        b"4 cin-mismatch\n",
+        1,
+    ),
+    (
+        "a packet's note stands behind what its last byte tells",
+        &["trace", "usb:0"],
+        &[0x08, 0x90, 0x3c, 0x64],
+        b"0 short 90 3C 64\nnote 0 cin-mismatch\n",
+        0,
+    ),
+    (
+        "a cut recording isn't judged",
+        &["check", "usb:0"],
+        &[0x09, 0x90, 0x3c, 0x64, 0x09],
+        b"",
+        5,
+    ),
+    (
+        "that it is cut goes before its notes",
+        &["check", "usb:0"],
+        &[0, 0, 0, 0, 0x0f, 0x05],
+        b"0 reserved-cin\n5 stray-data\n",
+        5,
+    ),
+    (
+        "what a cut packet began is truncated",
+        &["trace", "usb:0"],
+        &[0x09, 0x90, 0x3c],
+        b"note 1 truncated\n",
+        5,
+    ),
+];
+
+#[test]
+fn a_cable_is_read_in_any_cutting(rt: HostRuntime) -> Result<(), Fail> {
+    for rows in [CONVERTED, LISTED] {
+        for (shows, words, input, output, status) in rows {
+            let row = Row {
+                shows,
+                words,
+                input,
+                output,
+                status: *status,
+            };
+            for piece in [1, 2, 3, 5, 512] {
+                run(&rt, rt.alloc(), &row, piece, LIMIT)?;
+            }
+        }
+    }
+    Ok(())
+}
+
+/// Each cable has a status of its own, which runs while all the others come between.
+#[test]
+fn sixteen_cables_run_side_by_side(rt: HostRuntime) -> Result<(), Fail> {
+    let mut input = [0u8; 192];
+    let mut at = 0;
+    for turn in 0u8..3 {
+        for cable in 0u8..16 {
+            let bytes = if turn == 0 {
+                [cable * 16 + 9, 0x90 + cable, 0x40, cable]
+            } else {
+                [cable * 16 + 4, 0x40 + turn, cable, 0]
+            };
+            input[at..at + 4].copy_from_slice(&bytes);
+            at += 4;
+        }
+    }
+    for (cable, spec) in SPECS.iter().enumerate() {
+        let channel = cable as u8;
+        let row = Row {
+            shows: spec,
+            words: &["convert", spec, "din"],
+            input: &input,
+            output: &[
+                0x90 + channel,
+                0x40,
+                channel,
+                0x41,
+                channel,
+                0x00,
+                0x42,
+                channel,
+                0x00,
+            ],
+            status: 0,
+        };
+        for piece in [3, 512] {
+            run(&rt, rt.alloc(), &row, piece, LIMIT)?;
+        }
+    }
+    Ok(())
+}
+
+const SPECS: &[&str] = &[
+    "usb:0", "usb:1", "usb:2", "usb:3", "usb:4", "usb:5", "usb:6", "usb:7", "usb:8", "usb:9", "usb:10",
+    "usb:11", "usb:12", "usb:13", "usb:14", "usb:15",
+];
+
+/// An input that stops at each place inside a packet: status 5, its text, and what stands before it.
+#[test]
+fn a_recording_that_stops_inside_a_packet_is_cut(rt: HostRuntime) -> Result<(), Fail> {
+    let packets = &[0x09, 0x90, 0x3c, 0x64, 0x09, 0x90, 0x40, 0x64];
+    for end in 5..8 {
+        let args = words(rt.alloc(), &["convert", "usb:0", "din"])?;
+        let mut desk = desk(rt.alloc(), &packets[..end], 512, ROOM)?;
+        assert_eq!(rt; bridge(rt.alloc(), &args, &mut desk), 5, "cut at {end}");
+        assert!(rt; desk.is_written(1, &[0x90, 0x3c, 0x64]), "cut at {end}: output");
+        assert!(rt; desk.is_written(2, b"input is cut\n"), "cut at {end}: text");
+    }
+    Ok(())
+}
