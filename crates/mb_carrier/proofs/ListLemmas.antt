@@ -365,6 +365,6 @@ ended-last_halted s traced reader noted held kept took_first took_second took x 
       front = λ bytes h. (
         (f.1).0,
         ap (lines_told traced) (sym (says bytes h.reads))
-        ∙ (sym (g.all ∙ ap (λ xs. xs ++ lines_told traced (told_by x)) none) ∙ (ap (λ xs. g.given ++ xs) (f.1).1 ∙ sym (append_assoc g.given f.0 (f.1).0))),
+            ∙ (sym (g.all ∙ ap (λ xs. xs ++ lines_told traced (told_by x)) none) ∙ (ap (λ xs. g.given ++ xs) (f.1).1 ∙ sym (append_assoc g.given f.0 (f.1).0))),
       );
     }

@@ -187,6 +187,7 @@ cut-at_end words limit before after faults faults_now answer c all m a =
   where
     is_whole : whole (source_of c) (taken_off 0 before after) ≡ true → before.left 0 ≡ taken_off 0 before after → whole (source_of c) (before.left 0) ≡ false → ⊥
     is_whole w same h = wrong (sym w ∙ (sym (ap (whole (source_of c)) same) ∙ h))
+
     by_status : (status : Status) → read_all (code_of status) ≡ true → Ends words limit (before.left 0) (taken_off 0 before after) (added_to 1 before after) status →
         (code_of status ≡ 5) ↔ (whole (source_of c) (before.left 0) ≡ false)
     by_status Done e ends = (λ n. absurd (omega (arith, n)), λ h. absurd (is_whole (ends c m).1 ((ends c m).0).all h))

@@ -66,7 +66,13 @@ impl Listing {
             piece.now (λ given. Wrote D.tells D.contents D.read_faults 1 desk.old given desk.new)) }
     {
         let mut out = DeskOut::new(desk, 1);
-        list_hop(&mut self.reader, self.traced, &mut self.noted, piece, &mut out)
+        list_hop(
+            &mut self.reader,
+            self.traced,
+            &mut self.noted,
+            piece,
+            &mut out,
+        )
     }
 
     /// Prints what only the end makes known.

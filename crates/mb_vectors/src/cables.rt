@@ -1,5 +1,7 @@
 //! Recordings of USB-MIDI event packets: what a cable becomes, and what is listed of it.
 
+ghost use Rattle.std.specs.Prelude.{◌<◌};
+
 use crate::row::{ROOM, Row, desk, run, words};
 use mb_top::{LIMIT, bridge};
 use std::test::Fail;
@@ -66,7 +68,9 @@ const CONVERTED: &[Cable<'_>] = &[
     (
         "running data under the number of a dump that goes on",
         &["convert", "usb:0", "din"],
-        &[0x09, 0x90, 0x3c, 0x64, 0x04, 0x3e, 0x40, 0x3c, 0x0f, 0, 0, 0],
+        &[
+            0x09, 0x90, 0x3c, 0x64, 0x04, 0x3e, 0x40, 0x3c, 0x0f, 0, 0, 0,
+        ],
         &[0x90, 0x3c, 0x64, 0x3e, 0x40, 0x3c, 0x00],
         0,
     ),
@@ -161,21 +165,26 @@ fn a_cable_is_read_in_any_cutting(rt: HostRuntime) -> Result<(), Fail> {
     Ok(())
 }
 
+/// A cable's packet: at the first turn a message, then data that runs under its status, as three bytes of a dump.
+fn packet_of(cable: u8, turn: u8) -> [u8; 4]
+    requires cable { cable < 16 }
+    requires turn { turn < 16 }
+{
+    if turn == 0 {
+        [cable * 16 + 9, 0x90 + cable, 0x40, cable]
+    } else {
+        [cable * 16 + 4, 0x40 + turn, cable, 0]
+    }
+}
+
 /// Each cable has a status of its own, which runs while all the others come between.
 #[test]
 fn sixteen_cables_run_side_by_side(rt: HostRuntime) -> Result<(), Fail> {
     let mut input = [0u8; 192];
-    let mut at = 0;
-    for turn in 0u8..3 {
-        for cable in 0u8..16 {
-            let bytes = if turn == 0 {
-                [cable * 16 + 9, 0x90 + cable, 0x40, cable]
-            } else {
-                [cable * 16 + 4, 0x40 + turn, cable, 0]
-            };
-            input[at..at + 4].copy_from_slice(&bytes);
-            at += 4;
-        }
+    let mut index = 0u8;
+    for packet in input.chunks_exact_mut(4) {
+        packet.copy_from_slice(&packet_of(index % 16, index / 16));
+        index = index.wrapping_add(1);
     }
     for (cable, spec) in SPECS.iter().enumerate() {
         let channel = cable as u8;
@@ -204,8 +213,8 @@ fn sixteen_cables_run_side_by_side(rt: HostRuntime) -> Result<(), Fail> {
 }
 
 const SPECS: &[&str] = &[
-    "usb:0", "usb:1", "usb:2", "usb:3", "usb:4", "usb:5", "usb:6", "usb:7", "usb:8", "usb:9", "usb:10",
-    "usb:11", "usb:12", "usb:13", "usb:14", "usb:15",
+    "usb:0", "usb:1", "usb:2", "usb:3", "usb:4", "usb:5", "usb:6", "usb:7", "usb:8", "usb:9",
+    "usb:10", "usb:11", "usb:12", "usb:13", "usb:14", "usb:15",
 ];
 
 /// An input that stops at each place inside a packet: status 5, its text, and what stands before it.
@@ -216,7 +225,10 @@ fn a_recording_that_stops_inside_a_packet_is_cut(rt: HostRuntime) -> Result<(), 
         let args = words(rt.alloc(), &["convert", "usb:0", "din"])?;
         let mut desk = desk(rt.alloc(), &packets[..end], 512, ROOM)?;
         assert_eq!(rt; bridge(rt.alloc(), &args, &mut desk), 5, "cut at {end}");
-        assert!(rt; desk.is_written(1, &[0x90, 0x3c, 0x64]), "cut at {end}: output");
+        assert!(rt;
+            desk.is_written(1, &[0x90, 0x3c, 0x64]),
+            "cut at {end}: output"
+        );
         assert!(rt; desk.is_written(2, b"input is cut\n"), "cut at {end}: text");
     }
     Ok(())
