@@ -35,6 +35,12 @@ refuse convert din usb:01
 refuse convert din usb:-1
 refuse convert din "usb:1 "
 refuse convert din usb:0 usb:0
+refuse convert usb:16 din
+refuse check
+refuse check din din
+refuse check usb:16
+refuse trace
+refuse trace midi
 refuse convert din USB:0
 refuse convert "" usb:0
 refuse Convert din usb:0
@@ -60,10 +66,10 @@ expect "a folder as standard input: standard output" "" "$(hex <"$room/out")"
 expect "no standard input: status" 3 $?
 
 # Standard output that takes nothing: status 4.
-for carriers in "din usb:0" "din din"; do
-  printf '\x90\x3c\x64' | "$program" convert $carriers >/dev/full 2>"$room/err"
-  expect "$carriers to a full device: status" 4 $?
-  [ -s "$room/err" ] || expect "$carriers to a full device: standard error" "a line" ""
+for words in "convert din usb:0" "convert din din" "trace din" "check usb:0"; do
+  printf '\x00\x90\x3c\x64' | "$program" $words >/dev/full 2>"$room/err"
+  expect "$words to a full device: status" 4 $?
+  [ -s "$room/err" ] || expect "$words to a full device: standard error" "a line" ""
 done
 printf '\x90\x3c\x64' | "$program" convert din usb:0 >&- 2>"$room/err"
 expect "no standard output: status" 4 $?
@@ -116,6 +122,30 @@ expect "a slow pipe at its end" 2ff000002f010000 "$(hex <&4)"
 exec 4<&-
 wait $!
 expect "a slow pipe: status" 0 $?
+
+# The same of a listing: each line is there as it becomes known.
+"$program" trace usb:2 <"$room/slow" >"$room/answers" 2>"$room/err" &
+exec 3>"$room/slow" 4<"$room/answers"
+# line GIVEN WANTED: the line that comes within two seconds of some bytes
+line() {
+  local found
+  bytes "$1" >&3
+  read -r -t 2 found <&4
+  expect "a slow listing at $1" "$2" "$found"
+}
+line 29903c64 "0 short 90 3C 64"
+line 28 "" # a packet that isn't whole yet
+line 90 ""
+line 4000 "0 short 90 40 00"
+line 20 "note 4 cin-mismatch"
+exec 3>&- 4<&-
+wait $!
+
+# A recording that stops inside a packet: status 5, and what it has stands there.
+bytes 09903c6409 | "$program" convert usb:0 din >"$room/out" 2>"$room/err"
+expect "a cut recording: status" 5 $?
+expect "a cut recording: standard output" 903c64 "$(hex <"$room/out")"
+expect "a cut recording: standard error" "input is cut" "$(cat "$room/err")"
 
 [ "$wrong" -eq 0 ] && echo "the edges are as they should be"
 exit $wrong

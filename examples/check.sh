@@ -1,5 +1,5 @@
 #!/usr/bin/env bash
-# Holds the table of this folder's README against the files and the built program: each file has the bytes that stand there, and
+# Holds the tables of this folder's README against the files and the built program: each file has the bytes that stand there, and
 # each becomes what stands there. Run it after `make`; another program is named by its first word.
 program=$(realpath "${1:-$(dirname "$0")/../midibridge}")
 cd "$(dirname "$0")" || exit 1
@@ -17,9 +17,13 @@ while IFS='|' read -r _ file bytes _ becomes _; do
   [ "$found" = "$wanted" ] || { echo "$file: its bytes are $found"; wrong=1; }
   # what it becomes are the last words in backquotes
   wanted=$(sed 's/.*`\([^`]*\)`[^`]*$/\1/; s/ //g' <<<"$becomes")
-  found=$("$program" convert din usb:0 <"$file" | hex)
+  case $file in
+    *.din) specs="din usb:0" ;;
+    *) specs="usb:0 din" ;;
+  esac
+  found=$("$program" convert $specs <"$file" 2>/dev/null | hex)
   [ "$found" = "$wanted" ] || { echo "$file: it becomes $found"; wrong=1; }
-done < <(grep '^| `.*\.din`' README.md)
+done < <(grep '^| `.*\.\(din\|usb\)`' README.md)
 
 [ "$rows" -gt 0 ] || { echo "no rows"; exit 1; }
 [ "$wrong" = 0 ] && echo "$rows examples are as their table has them"
