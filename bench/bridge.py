@@ -1,12 +1,14 @@
 #!/usr/bin/env python3
-"""Times the built program on recordings made here, beside `dd bs=512` and a plain C loop (plain.c), each once a round, in turn.
+"""Times the built program on recordings made here, beside `dd bs=512` and, for conversions, a plain C loop (plain.c), each once a
+round, in turn.
 
-    bench/bridge.py [--program ./midibridge] [--mib 64] [--rounds 15] [--quick]
+    bench/bridge.py [--program ./midibridge] [--mib 64] [--rounds 15] [--quick] [--only WORDS] [--no-memory]
 
---quick is 16 MiB and 5 rounds. Prints the median throughput as a ratio to dd and to C, for each kind of input, each sink and
-`convert din usb:0` and `convert din din`, and the same ratio to C by the processor's time, which other work on the machine changes
-less; then the peak resident memory and the time a byte at 1 MiB and at 256 MiB, and the memory of one System Exclusive message of
-96 MiB. Ends with status 1 where an output isn't C's, or where memory grows with the input."""
+--quick is 16 MiB and 5 rounds; --only takes the commands that contain these words. Prints the median throughput as a ratio to dd and
+to C, for each command, each kind of input and each sink (a listing to /dev/null alone), and the same ratio to C by the processor's
+time, which other work on the machine changes less; then for each command the peak resident memory and the time a byte at 1 MiB and at
+256 MiB, and the memory of one System Exclusive message of 96 MiB. Ends with status 1 where an output isn't C's, or where memory grows
+with the input."""
 import argparse
 import os
 import random
@@ -19,7 +21,18 @@ import time
 
 HERE = os.path.dirname(os.path.abspath(__file__))
 MIB = 1 << 20
-CARRIERS = {"din usb:0": "usb", "din din": "din"}  # the program's words, and those of plain.c
+# the program's words, the carrier that they read, and plain.c's words for the same
+COMMANDS = {
+    "convert din usb:0": ("din", ["din", "usb"]),
+    "convert din din": ("din", ["din", "din"]),
+    "convert usb:0 din": ("usb", ["usb", "din"]),
+    "convert usb:0 usb:1": ("usb", ["usb", "usb"]),
+    "check din": ("din", None),
+    "trace din": ("din", None),
+    "check usb:0": ("usb", None),
+    "trace usb:0": ("usb", None),
+}
+KINDS = ["channel messages", "a third SysEx"]
 SINKS = ["/dev/null", "pipe", "file"]
 
 
@@ -38,14 +51,16 @@ def channel_messages(rng, count):
     return bytes(line)
 
 
-def recording(kind, size):
-    """Bytes of a kind: one MiB made by chance with a fixed seed, again and again up to the size."""
+def recording(program, kind, carrier, size):
+    """Bytes of a kind: one MiB made by chance with a fixed seed, again and again up to the size; as a byte line, or as packets of cable 0."""
     rng = random.Random(7)
     block = bytearray()
     while len(block) < MIB:
         block += channel_messages(rng, 200)
         if kind == "a third SysEx":
             block += b"\xf0" + bytes(rng.randrange(128) for _ in range(rng.randrange(4, 200))) + b"\xf7"
+    if carrier == "usb":
+        block = subprocess.run([program, "convert", "din", "usb:0"], input=block, stdout=subprocess.PIPE, check=True).stdout
     return bytes(block[:MIB]) * (size // MIB)
 
 
@@ -66,7 +81,7 @@ def run(words, source, sink, room):
         process.returncode = os.waitstatus_to_exitcode(status)
         if reader:
             reader.wait()
-    if process.returncode != 0:
+    if process.returncode > 1:  # a recording is cut at the end of its MiB, so check may find a note
         sys.exit(f"{words} ended with status {process.returncode}")
     return seconds, used.ru_utime + used.ru_stime
 
@@ -86,19 +101,20 @@ def written(words, source):
         return subprocess.run(words, stdin=given, stdout=subprocess.PIPE, check=True).stdout
 
 
-def ratios(program, plain, source, rounds, room, carriers):
+def ratios(program, plain, command, source, rounds, room):
     """Rows of medians over the rounds: the program's throughput to dd's and to C's, for each sink."""
-    programs = {"dd": ["dd", "bs=512"], "ours": [program, "convert"] + carriers.split()}
-    if plain:
-        programs["C"] = [plain, CARRIERS[carriers]]
-    for sink in SINKS:
+    programs = {"dd": ["dd", "bs=512"], "ours": [program] + command.split()}
+    loop = COMMANDS[command][1]
+    if plain and loop:
+        programs["C"] = [plain] + loop
+    for sink in SINKS if loop else SINKS[:1]:
         took = {name: [] for name in programs}
         for _ in range(rounds):
             for name, words in programs.items():
                 took[name].append(run(words, source, sink, room))
         median = lambda name, which: statistics.median(other[which] / ours[which] for other, ours in zip(took[name], took["ours"]))
         speed = os.path.getsize(source) / statistics.median(seconds for seconds, _ in took["ours"]) / 1e6
-        to_c = [f"{median('C', which):.2f}" if plain else "-" for which in (0, 1)]
+        to_c = [f"{median('C', which):.2f}" if "C" in programs else "-" for which in (0, 1)]
         yield [sink, f"{median('dd', 0):.3f}", *to_c, f"{speed:.0f}"]
 
 
@@ -118,12 +134,13 @@ def make(path, data, times=1):
     return path
 
 
-def memory(program, room):
+def memory(program, commands, room):
     """Prints memory and time a byte at 1 and 256 MiB, and the memory of one long SysEx; returns whether the memory is equal."""
-    block = recording("a third SysEx", MIB)
+    print(f"{'command':20} {'size':>16} {'peak KiB':>9} {'ns of the processor a byte':>27}")
     peaks = []
-    for carriers in CARRIERS:
-        words = [program, "convert"] + carriers.split()
+    for command in commands:
+        carrier, words = COMMANDS[command][0], [program] + command.split()
+        block = recording(program, "a third SysEx", carrier, MIB)
         seconds = lambda size, rounds: statistics.median(
             run(words, make(f"{room}/in", block, size), "/dev/null", room)[1] for _ in range(rounds)
         )
@@ -131,10 +148,13 @@ def memory(program, room):
         for size, rounds in ((1, 31), (256, 3)):
             nanoseconds = (seconds(size, rounds) - start) * 1e9 / (size * MIB)
             peaks.append(peak_memory(words, (block for _ in range(size))))
-            print(f"{carriers:10} {size:4} MiB: peak {peaks[-1]} KiB, {nanoseconds:.2f} ns of the processor a byte")
-        dump = [b"\xf0"] + [b"\x55" * MIB] * 96 + [b"\xf7"]
+            print(f"{command:20} {size:12} MiB {peaks[-1]:9} {nanoseconds:27.2f}", flush=True)
+        if carrier == "din":
+            dump = [b"\xf0"] + [b"\x55" * MIB] * 96 + [b"\xf7"]
+        else:
+            dump = [b"\x04\xf0\x55\x55"] + [b"\x04\x55\x55\x55" * (MIB // 4)] * 96 + [b"\x05\xf7\x00\x00"]
         peaks.append(peak_memory(words, dump))
-        print(f"{carriers:10} one SysEx of 96 MiB: peak {peaks[-1]} KiB")
+        print(f"{command:20} {'one SysEx, 96':>12} MiB {peaks[-1]:8}", flush=True)
     return max(peaks) - min(peaks) <= 512  # how much of the C library the system has loaded differs from run to run
 
 
@@ -144,9 +164,11 @@ def main():
     options.add_argument("--mib", type=int, default=64)
     options.add_argument("--rounds", type=int, default=15)
     options.add_argument("--quick", action="store_true")
+    options.add_argument("--only", default="")
     options.add_argument("--no-memory", action="store_true")
     given = options.parse_args()
     size, rounds = (16, 5) if given.quick else (given.mib, given.rounds)
+    commands = [command for command in COMMANDS if given.only in command]
     program = os.path.abspath(given.program)
     if not os.path.exists(program):
         sys.exit(f"no {program}: run make first")
@@ -154,17 +176,17 @@ def main():
     with tempfile.TemporaryDirectory() as room:
         plain = compile_plain(room)
         print(f"{size} MiB, medians of {rounds} rounds; 1.00 is as fast" + ("" if plain else "; no C compiler, so no column for C"))
-        print(f"{'convert':10} {'input':17} {'sink':10} {'to dd':>6} {'to C':>6} {'by CPU':>6} {'MB/s':>6}")
-        for kind in ("channel messages", "a third SysEx"):
-            source = make(f"{room}/in", recording(kind, size * MIB))
-            for carriers in CARRIERS:
-                words = [program, "convert"] + carriers.split()
-                if plain and written(words, source) != written([plain, CARRIERS[carriers]], source):
-                    print(f"{carriers}: the output isn't that of the C loop")
+        print(f"{'command':20} {'input':17} {'sink':10} {'to dd':>6} {'to C':>6} {'by CPU':>6} {'MB/s':>6}")
+        for command in commands:
+            carrier, loop = COMMANDS[command]
+            for kind in KINDS:
+                source = make(f"{room}/in", recording(program, kind, carrier, size * MIB))
+                if plain and loop and written([program] + command.split(), source) != written([plain] + loop, source):
+                    print(f"{command}: the output isn't that of the C loop")
                     fine = False
-                for sink, *numbers in ratios(program, plain, source, rounds, room, carriers):
-                    print(f"{carriers:10} {kind:17} {sink:10}", *(f"{number:>6}" for number in numbers), flush=True)
-        if not given.no_memory and not memory(program, room):
+                for sink, *numbers in ratios(program, plain, command, source, rounds, room):
+                    print(f"{command:20} {kind:17} {sink:10}", *(f"{number:>6}" for number in numbers), flush=True)
+        if not given.no_memory and not memory(program, commands, room):
             print("memory grows with the input")
             fine = False
     sys.exit(0 if fine else 1)

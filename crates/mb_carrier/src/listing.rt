@@ -16,6 +16,7 @@ use mb_outside::{Out, Refused};
 use mb_print::{Line, mark_line, note_line};
 
 /// Reads a piece to its end and prints all that it gives. After `Refused` a front of it was handed on.
+#[inline(always)]
 pub(crate) fn list_pair<R: EventReader, K: Out>(
     reader: &mut R,
     traced: bool,
@@ -72,6 +73,7 @@ pub(crate) fn list_last<R: EventReader, K: Out>(
 }
 
 /// Whether it is a note.
+#[inline(always)]
 fn is_note(seen: Seen<'_>) -> bool
     ensures { result ≡ has_notes (told_by seen.entry) }
 {
@@ -82,6 +84,7 @@ fn is_note(seen: Seen<'_>) -> bool
 }
 
 /// Prints a note, and an event where marks are traced.
+#[inline(always)]
 fn list_seen<K: Out>(
     seen: Seen<'_>,
     traced: bool,
