@@ -2,7 +2,7 @@
 
 ghost use Rattle.std.specs.Prelude.{◌≡◌, ℕ, ◌+◌, ◌%◌, ◌<◌, ◌≤◌, List};
 ghost use Rattle.mb_clock.specs.Stamps.{Packet, ArePackets, all_bits};
-ghost use Rattle.mb_clock.specs.Moments.{AreMoments, IsNextMoment, moments};
+ghost use Rattle.mb_clock.specs.Moments.{AreMoments, AreNear, IsNextMoment, moments, stamped_alone};
 
 /// The moments of any packets are each the least that the one before and the stamp allow, and there are no others.
 pub fn moments_are_least()
@@ -10,8 +10,10 @@ pub fn moments_are_least()
     ensures only { (packets : List Packet) (ms : List ℕ) → AreMoments 0 (all_bits packets) ms → ms ≡ moments packets }
 {}
 
-/// A stamp gives back the moment that it was made of, where less than 8,192 ms passed since the last.
+/// A stamp gives back the moment that it was made of, where less than 8,192 ms passed since the last; so do stamps in packets
+/// of their own.
 pub fn near_moments_come_back()
-    ensures { (last moment : ℕ) → last ≤ moment → moment < last + 8192 →
+    ensures one { (last moment : ℕ) → last ≤ moment → moment < last + 8192 →
         IsNextMoment last (moment % 8192) moment }
+    ensures all { (ms : List ℕ) → AreNear 0 ms → moments (stamped_alone ms) ≡ ms }
 {}

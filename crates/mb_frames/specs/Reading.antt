@@ -7,6 +7,7 @@
 --   Stands place bytes parts     the reader has taken these bytes and told these parts
 --   IsLongest place input part   content's bytes are as many as the piece and the frame allow
 --   room_of place                the bytes of the content that are to come
+--   begun length                 the part that the end of a length tells
 --   owed place                   1 where a frame's end is to be told
 --   is_partial place             whether the reader stands inside a frame
 --   IsWhole bytes                whole frames: what follows is read as if it stood alone
@@ -55,6 +56,10 @@ abbrev pub length_ended : Place → ℕ → Option ℕ
 length_ended Between byte = None
 length_ended (High high) byte = Some (256 * high + byte)
 length_ended (Within left) byte = None
+
+abbrev pub begun : Option ℕ → List FramePart
+begun None = []
+begun (Some len) = FrameBegin len ∷ []
 
 -- Content comes where some is to come, is never empty, and as long as the frame and the piece allow.
 abbrev pub IsLongest : Place → (input : List ℕ) → Part → Type 0

@@ -1,5 +1,5 @@
 -- What holds of a router between calls, and that each call keeps it.
-use Rattle.std.proofs.Common.{◌≡◌, ◌≢◌, ℕ, ◌<◌, ◌⊎◌, inl, inr, Bool, true, false, not, ◌&&◌, ◌||◌, ◌==◌, if◌then◌else◌, List, [], ◌∷◌, ◌++◌, length, map, drop, Option, Some, None, refl, sym, ◌∙◌, ap, subst, arith}
+use Rattle.std.proofs.Common.{◌≡◌, ◌≢◌, ◌↔◌, ℕ, ◌<◌, ◌≤◌, ◌⊎◌, inl, inr, Bool, true, false, not, ◌&&◌, ◌||◌, ◌==◌, if◌then◌else◌, List, [], ◌∷◌, ◌++◌, length, map, drop, Option, Some, None, refl, sym, ◌∙◌, ap, subst, arith}
 use Rattle.std.specs.Prelude.{slice_set}
 use Rattle.std.proofs.lemmas.Bool.Decides.{nat_tests}
 use Rattle.std.proofs.lemmas.Option.{none-some}
@@ -10,7 +10,7 @@ use Rattle.mb_message.specs.Signs.{sign_of, suits_sign}
 use Rattle.mb_merge.specs.declared.source.Held.{Held}
 use Rattle.mb_merge.specs.declared.router.Passed.{Passed}
 use Rattle.mb_merge.specs.Links.{Link, Merger, HasSource, link_at, link_of, with_link, is_owned}
-use Rattle.mb_merge.specs.Passing.{is_realtime_mark, may_pass, opens, least, passes_now, taken, offered_mark, after_pass, after_head, drained}
+use Rattle.mb_merge.specs.Passing.{has_room, has_room_in, is_realtime_mark, may_pass, opens, least, passes_now, taken, offered_mark, after_pass, after_head, drained}
 use Rattle.mb_merge.specs.Calls.{in_turn, IsExclusive}
 use Rattle.mb_merge.proofs.Flows.{link_at-set_same, link_at-set_other, same_or_not, Suit, Suit-append, NoRealtime, NoRealtime-append, opens-realtime, IsFree, not_owned-free, exclusive-set, Alike, alike-set, IsFree-alike, IsExclusive-alike}
 
@@ -30,7 +30,7 @@ pub record Turn (offered : Option Passed) (source : ℕ) (link : Link) : Type 0 
 pub record Fits (m : Merger) : Type 0 where
   pub turn : (source : ℕ) → Turn m.offered source (link_of m source)
   pub source : HasSource m.links m.offered
-  pub free : (p : Passed) → m.offered ≡ Some p → p.mark ≡ mark.Open → IsFree m.links p.source
+  pub free : (p : Passed) → m.offered ≡ Some p → is_realtime_mark p.mark ≡ false → IsFree m.links p.source
   pub exclusive : IsExclusive m.links
   pub quiet : m.draining ≡ false → (m.offered ≡ None) × (least m.links ≡ None)
 
@@ -47,7 +47,7 @@ other_number a b h = grind (arith, nat_tests)
 offered_turn-other : (p : Passed) (source : ℕ) → p.source ≢ source → offered_turn (Some p) source ≡ []
 offered_turn-other p source apart = ap (λ t. if t && not (is_realtime_mark p.mark) then p.mark ∷ [] else []) (other_number p.source source apart)
 
-offered_turn-own : (p : Passed) (source : ℕ) (rt : Bool) → p.source ≡ source → is_realtime_mark p.mark ≡ rt → offered_turn (Some p) source ≡ (if rt then [] else p.mark ∷ [])
+pub offered_turn-own : (p : Passed) (source : ℕ) (rt : Bool) → p.source ≡ source → is_realtime_mark p.mark ≡ rt → offered_turn (Some p) source ≡ (if rt then [] else p.mark ∷ [])
 offered_turn-own p source true here is =
     ap (λ t. if t && not (is_realtime_mark p.mark) then p.mark ∷ [] else []) (same_number p.source source here) ∙ ap (λ t. if not t then p.mark ∷ [] else []) is
 offered_turn-own p source false here is =
@@ -76,6 +76,17 @@ waits-why m source mk is = by_test (is_realtime_mark mk) ((length (link_of m sou
   by_test : (rt rest : Bool) → (rt || rest) ≡ false → rt ≡ false
   by_test true rest h = h
   by_test false rest h = refl
+
+-- when a mark is refused
+pub refused : (m : Merger) (source : ℕ) (mk : Mark) → (has_room m source mk ≡ false) ↔ ((is_realtime_mark mk ≡ false) × (passes_now m source mk ≡ false) × (1024 ≤ length (link_of m source).held))
+refused m source mk = (
+  λ h. by_test (passes_now m source mk) refl h,
+  λ all. ap (λ p. has_room_in (link_of m source) p) all.1 ∙ grind (arith, nat_tests, all.2),
+) where
+  by_test : (passes : Bool) → passes_now m source mk ≡ passes → has_room_in (link_of m source) passes ≡ false →
+      (is_realtime_mark mk ≡ false) × (passes_now m source mk ≡ false) × (1024 ≤ length (link_of m source).held)
+  by_test true is h = absurd (not_true h)
+  by_test false is h = (waits-why m source mk is, is, grind (arith, nat_tests, h))
 
 -- a source's link after an offer of it
 turn-offer : (m : Merger) (source moment : ℕ) (mk : Mark) (link : Link) (passes : Bool) →
@@ -132,24 +143,29 @@ not_not : (b : Bool) → not b ≡ true → b ≡ false
 not_not true h = sym h
 not_not false h = refl
 
--- an Open may pass where its outs are free
-may-free : (links : List Link) (source : ℕ) (mk : Mark) → mk ≡ mark.Open → may_pass links source mk ≡ true → IsFree links source
-may-free links source mk opened may =
-    not_owned-free links source (not_not (is_owned links source) (sym (ap (may_pass links source) opened) ∙ may))
+-- a mark that keeps its turn passes where no other source has a SysEx open on an out of its source
+open-free : (links : List Link) (source : ℕ) → source < length links → IsExclusive links → (link_at links source).is_open ≡ true → IsFree links source
+open-free links source below ex mine = record { free = λ i i_below apart opened. ex.apart i source i_below below apart opened mine }
 
-open_not_rt : (mk : Mark) → mk ≡ mark.Open → is_realtime_mark mk ≡ true → ⊥
-open_not_rt mk opened rt = not_true (sym rt ∙ ap is_realtime_mark opened)
+pub may-free : (links : List Link) (source : ℕ) (mk : Mark) → source < length links → IsExclusive links → is_realtime_mark mk ≡ false → may_pass links source mk ≡ true → IsFree links source
+may-free links source (mark.Rt r) below ex not_rt may = absurd (not_true not_rt)
+may-free links source (mark.Short s) below ex not_rt may = not_owned-free links source (not_not (is_owned links source) may)
+may-free links source mark.Open below ex not_rt may = not_owned-free links source (not_not (is_owned links source) may)
+may-free links source (mark.Byte b) below ex not_rt may = open-free links source below ex may
+may-free links source mark.End below ex not_rt may = open-free links source below ex may
+may-free links source mark.Abort below ex not_rt may = open-free links source below ex may
 
 same_passed : (a b : Passed) → Some a ≡ Some b → a ≡ b
 same_passed a b h = cc
 
-free-offered : (links new : List Link) (source moment : ℕ) (mk : Mark) (passes : Bool) (p : Passed) (link : Link) → Alike links new → offered_mark passes source moment mk ≡ Some p → p.mark ≡ mark.Open →
+free-offered : (links new : List Link) (source moment : ℕ) (mk : Mark) (passes : Bool) (p : Passed) (link : Link) → source < length links → IsExclusive links → Alike links new →
+    offered_mark passes source moment mk ≡ Some p → is_realtime_mark p.mark ≡ false →
     (passes ≡ true → (is_realtime_mark mk ≡ true) ⊎ Passes links source mk link) → IsFree new p.source
-free-offered links new source moment mk false p link like offered opened why = absurd (none-some p offered)
-free-offered links new source moment mk true p link like offered opened why =
+free-offered links new source moment mk false p link below ex like offered not_rt why = absurd (none-some p offered)
+free-offered links new source moment mk true p link below ex like offered not_rt why =
     let same : record { source = source; arrival = moment; mark = mk } ≡ p = same_passed (record { source = source; arrival = moment; mark = mk }) p offered in
-    let is_open : mk ≡ mark.Open = ap (λ z. z.mark) same ∙ opened in
-    let free : IsFree links source = elim (why refl) [ inl rt ↦ absurd (open_not_rt mk is_open rt) | inr passes ↦ may-free links source mk is_open passes.may ] in
+    let mine : is_realtime_mark mk ≡ false = ap (λ z. is_realtime_mark z.mark) same ∙ not_rt in
+    let free : IsFree links source = elim (why refl) [ inl rt ↦ absurd (not_true (sym rt ∙ mine)) | inr passes ↦ may-free links source mk below ex mine passes.may ] in
     subst (λ k. IsFree new k) (ap (λ z. z.source) same) (IsFree-alike links new source like free)
 
 pub fits-offer : (m : Merger) (source moment : ℕ) (mk : Mark) (passes : Bool) → passes_now m source mk ≡ passes → Fits m → source < length m.links →
@@ -157,7 +173,7 @@ pub fits-offer : (m : Merger) (source moment : ℕ) (mk : Mark) (passes : Bool) 
 fits-offer m source moment mk passes is f below suits nothing = record {
   turn = λ other. turn_at other (same_or_not other source);
   source = has_source new_links source moment mk passes (subst (λ n. source < n) (sym like.len) below);
-  free = λ p offered opened. free-offered m.links new_links source moment mk passes p (link_of m source) like offered opened why;
+  free = λ p offered not_rt. free-offered m.links new_links source moment mk passes p (link_of m source) below f.exclusive like offered not_rt why;
   exclusive = IsExclusive-alike m.links new_links like f.exclusive;
   quiet = λ h. absurd (not_true h);
 } where
@@ -218,7 +234,7 @@ pub fits-offered : (m : Merger) (p : Passed) → m.offered ≡ Some p → Fits m
 fits-offered m p is f = record {
   turn = λ other. turn_at other (same_or_not other p.source);
   source = tt;
-  free = λ q offered opened. absurd (none-some q offered);
+  free = λ q offered not_rt. absurd (none-some q offered);
   exclusive = exclusive-set m.links p.source (after_pass (link_of m p.source) p.mark) below refl opening f.exclusive;
   quiet = λ h. absurd (none-some p (sym (f.quiet h).0 ∙ is));
 } where
@@ -229,7 +245,7 @@ fits-offered m p is f = record {
   turn_some other = subst (λ o. Turn o other (link_of m other)) is (f.turn other)
 
   opening : opens (link_of m p.source).is_open p.mark ≡ true → ((link_of m p.source).is_open ≡ true) ⊎ IsFree m.links p.source
-  opening h = elim (opens_only p.mark (link_of m p.source).is_open h) [ inl was ↦ inl was | inr opened ↦ inr (f.free p is opened) ]
+  opening h = elim (opens_only p.mark (link_of m p.source).is_open h) [ inl was ↦ inl was | inr opened ↦ inr (f.free p is (ap is_realtime_mark opened)) ]
 
   turn_at : (other : ℕ) → (other ≡ p.source) ⊎ (other ≢ p.source) → Turn None other (link_at (slice_set m.links p.source (after_pass (link_of m p.source) p.mark)) other)
   turn_at other (inl same) =
@@ -259,12 +275,12 @@ pub fits-head : (m : Merger) (source : ℕ) (h : Held) (hs : List Held) → m.of
 fits-head m source h hs nothing below is may busy f = record {
   turn = λ other. turn_at other (same_or_not other source);
   source = subst (HasSource (slice_set m.links source (after_head (link_of m source) h.mark))) (sym nothing) tt;
-  free = λ q offered opened. absurd (none-some q (sym nothing ∙ offered));
+  free = λ q offered not_rt. absurd (none-some q (sym nothing ∙ offered));
   exclusive = exclusive-set m.links source (after_head (link_of m source) h.mark) below refl opening f.exclusive;
   quiet = λ q. absurd (busy q);
 } where
   opening : opens (link_of m source).is_open h.mark ≡ true → ((link_of m source).is_open ≡ true) ⊎ IsFree m.links source
-  opening o = elim (opens_only h.mark (link_of m source).is_open o) [ inl was ↦ inl was | inr opened ↦ inr (may-free m.links source h.mark opened may) ]
+  opening o = elim (opens_only h.mark (link_of m source).is_open o) [ inl was ↦ inl was | inr opened ↦ inr (may-free m.links source h.mark below f.exclusive (ap is_realtime_mark opened) may) ]
 
   turn_none : (other : ℕ) → Turn None other (link_of m other)
   turn_none other = subst (λ o. Turn o other (link_of m other)) nothing (f.turn other)

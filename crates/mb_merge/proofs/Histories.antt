@@ -226,7 +226,7 @@ head_list (y ∷ ys) x is =
     let same : y ≡ x = same_held y x is in
     (ys, ap (λ z. z ∷ ys) same)
 
-ready-may : (links : List Link) (source : ℕ) (hd : Held) (best : Head) → ready_by links source (Some hd) ≡ Some best → may_pass links source hd.mark ≡ true
+pub ready-may : (links : List Link) (source : ℕ) (hd : Held) (best : Head) → ready_by links source (Some hd) ≡ Some best → may_pass links source hd.mark ≡ true
 ready-may links source hd best is = by_test (may_pass links source hd.mark) is where
   by_test : (may : Bool) → (if may then Some (record { arrival = hd.arrival; source = source }) else None) ≡ Some best → may ≡ true
   by_test true h = refl
@@ -300,7 +300,7 @@ keeps-begins m fresh = record {
       no_rt = subst NoRealtime (sym (fresh.closed source).nothing) tt;
     });
     source = subst (HasSource m.links) (sym fresh.nothing) tt;
-    free = λ p offered opened. absurd (none-some p (sym fresh.nothing ∙ offered));
+    free = λ p offered not_rt. absurd (none-some p (sym fresh.nothing ∙ offered));
     exclusive = record { apart = λ i j i_below j_below different i_open j_open. absurd (not_true (sym i_open ∙ (fresh.closed i).not_open)) };
     quiet = λ h. (fresh.nothing, least_below-none m.links (length m.links) (λ source below. (fresh.closed source).nothing));
   };
@@ -332,7 +332,7 @@ not-ready links source hd is = by_test (may_pass links source hd.mark) (record {
   by_test true head h = absurd (none-some head (sym h))
   by_test false head h = refl
 
-head-suits : (m : Merger) (source : ℕ) (hd : Held) (hs : List Held) → Fits m → m.offered ≡ None → (link_of m source).held ≡ hd ∷ hs →
+pub head-suits : (m : Merger) (source : ℕ) (hd : Held) (hs : List Held) → Fits m → m.offered ≡ None → (link_of m source).held ≡ hd ∷ hs →
     suits_sign (link_of m source).is_open (sign_of hd.mark) ≡ true
 head-suits m source hd hs f nothing is =
     let t : Turn None source (link_of m source) = subst (λ o. Turn o source (link_of m source)) nothing (f.turn source) in
@@ -366,6 +366,7 @@ orderly m calls fresh =
       turns = k.turns;
       realtimes = k.realtimes;
       exclusive = k.fits.exclusive;
+      idle = λ quiet. (k.fits.quiet quiet).0;
       settled = settled (after_calls (begins m) calls).now k.fits;
       heads_suit = λ nothing source hd hs below is. head-suits (after_calls (begins m) calls).now source hd hs k.fits nothing is;
     }

@@ -6,3 +6,4 @@ pub mod Fits
 pub mod Histories
 pub mod Fewer
 pub mod Tracks
+pub mod OutLines

@@ -1,12 +1,12 @@
 -- Opening: the faults, and the links at first.
-use Rattle.std.proofs.Common.{◌≡◌, ℕ, ◌<◌, ◌≤◌, Bool, true, false, not, ◌&&◌, nat_lt, if◌then◌else◌, List, [], ◌∷◌, ◌++◌, length, map, get_or, Some, None, refl, sym, ◌∙◌, arith}
+use Rattle.std.proofs.Common.{◌≡◌, ℕ, ◌<◌, ◌≤◌, inl, inr, Bool, true, false, not, ◌&&◌, nat_lt, if◌then◌else◌, List, [], ◌∷◌, ◌++◌, length, map, get_or, Option, Some, None, refl, sym, ◌∙◌, ap, subst, arith, append-nil, append_assoc}
 use Rattle.std.specs.List.{range_with_len}
 use Rattle.std.proofs.lemmas.List.{same_lists}
 use Rattle.std.proofs.lemmas.List.FromFn.{get_or-map-range_with_len, length-map-range_with_len}
 use Rattle.std.proofs.lemmas.Bool.Decides.{nat_tests}
 use Rattle.std.proofs.lemmas.List.{get_or_default}
 use Rattle.mb_message.specs.declared.Memory.{Memory}
-use Rattle.mb_merge.specs.Opening.{is_count, stands_in, route_fault, first_fault, Refuses}
+use Rattle.mb_merge.specs.Opening.{is_count, stands_in, route_fault, first_fault, Refuses, AreRight, IsWrongBy, IsFirstWrong, AreCounts, FaultIs}
 use Rattle.mb_merge.specs.declared.opening.RouterFault.{RouterFault}
 use Rattle.mb_merge.specs.declared.opening.RouterFault.TheVariants as fault
 
@@ -47,3 +47,87 @@ counts sources outs routes is = by_test (is_count sources) (is_count outs) refl 
   by_test true true hs ho h = (grind (arith, nat_tests), grind (arith, nat_tests))
   by_test true false hs ho h = absurd (cc)
   by_test false o hs ho h = absurd (cc)
+
+-- the first faulty route
+
+lt-true : (a b : ℕ) → nat_lt a b ≡ true → a < b
+lt-true a b h = grind (arith, nat_tests)
+
+lt-false : (a b : ℕ) → nat_lt a b ≡ false → b ≤ a
+lt-false a b h = grind (arith, nat_tests)
+
+same_fault : (f g : RouterFault) → Some f ≡ Some g → f ≡ g
+same_fault f g h = cc
+
+first_here : (sources outs : ℕ) (before : List (ℕ × ℕ)) (r : ℕ × ℕ) (rs : List (ℕ × ℕ)) (wrong f : RouterFault) → Some f ≡ Some wrong → IsWrongBy sources outs before r f → IsFirstWrong sources outs before (r ∷ rs) wrong
+first_here sources outs before r rs wrong f is why = record {
+  front = [];
+  route = r;
+  back = rs;
+  joined = refl;
+  right = tt;
+  why = subst (λ z. IsWrongBy sources outs z r wrong) (sym (append-nil before)) (subst (IsWrongBy sources outs before r) (same_fault f wrong is) why);
+}
+
+first_later : (sources outs : ℕ) (before : List (ℕ × ℕ)) (r : ℕ × ℕ) (rs : List (ℕ × ℕ)) (wrong : RouterFault) → r.0 < sources → r.1 < outs → stands_in r before ≡ false →
+    IsFirstWrong sources outs (before ++ r ∷ []) rs wrong → IsFirstWrong sources outs before (r ∷ rs) wrong
+first_later sources outs before r rs wrong s o new w = record {
+  front = r ∷ w.front;
+  route = w.route;
+  back = w.back;
+  joined = ap (λ z. r ∷ z) w.joined;
+  right = ((s, o, new), w.right);
+  why = subst (λ z. IsWrongBy sources outs z w.route wrong) (append_assoc before (r ∷ []) w.front) w.why;
+}
+
+route-wrong : (sources outs : ℕ) (before routes : List (ℕ × ℕ)) (wrong : RouterFault) → route_fault sources outs before routes ≡ Some wrong → IsFirstWrong sources outs before routes wrong
+route-wrong sources outs before [] wrong is = absurd (none_some is) where
+  none_some : None ≡ Some wrong → ⊥
+  none_some h = cc
+route-wrong sources outs before (r ∷ rs) wrong is =
+    by_test (nat_lt r.0 sources) (nat_lt r.1 outs) (stands_in r before) refl refl refl is (route-wrong sources outs (before ++ r ∷ []) rs wrong) where
+      by_test : (s o twice : Bool) → nat_lt r.0 sources ≡ s → nat_lt r.1 outs ≡ o → stands_in r before ≡ twice →
+          (if not (s && o) then Some fault.Index else (if twice then Some fault.Twice else route_fault sources outs (before ++ r ∷ []) rs)) ≡ Some wrong →
+          (route_fault sources outs (before ++ r ∷ []) rs ≡ Some wrong → IsFirstWrong sources outs (before ++ r ∷ []) rs wrong) → IsFirstWrong sources outs before (r ∷ rs) wrong
+      by_test false o twice hs ho ht h rest = first_here sources outs before r rs wrong fault.Index h (inl (lt-false r.0 sources hs))
+      by_test true false twice hs ho ht h rest = first_here sources outs before r rs wrong fault.Index h (inr (lt-false r.1 outs ho))
+      by_test true true true hs ho ht h rest = first_here sources outs before r rs wrong fault.Twice h (lt-true r.0 sources hs, lt-true r.1 outs ho, ht)
+      by_test true true false hs ho ht h rest = first_later sources outs before r rs wrong (lt-true r.0 sources hs) (lt-true r.1 outs ho) ht (rest h)
+
+route-right : (sources outs : ℕ) (before routes : List (ℕ × ℕ)) → route_fault sources outs before routes ≡ None → AreRight sources outs before routes
+route-right sources outs before [] is = tt
+route-right sources outs before (r ∷ rs) is =
+    by_test (nat_lt r.0 sources) (nat_lt r.1 outs) (stands_in r before) refl refl refl is (route-right sources outs (before ++ r ∷ []) rs) where
+      some_none : (f : RouterFault) → Some f ≡ None → ⊥
+      some_none f h = cc
+
+      by_test : (s o twice : Bool) → nat_lt r.0 sources ≡ s → nat_lt r.1 outs ≡ o → stands_in r before ≡ twice →
+          (if not (s && o) then Some fault.Index else (if twice then Some fault.Twice else route_fault sources outs (before ++ r ∷ []) rs)) ≡ None →
+          (route_fault sources outs (before ++ r ∷ []) rs ≡ None → AreRight sources outs (before ++ r ∷ []) rs) → AreRight sources outs before (r ∷ rs)
+      by_test false o twice hs ho ht h rest = absurd (some_none fault.Index h)
+      by_test true false twice hs ho ht h rest = absurd (some_none fault.Index h)
+      by_test true true true hs ho ht h rest = absurd (some_none fault.Twice h)
+      by_test true true false hs ho ht h rest = ((lt-true r.0 sources hs, lt-true r.1 outs ho, ht), rest h)
+
+count-true : (n : ℕ) → is_count n ≡ true → (1 ≤ n) × (n ≤ 16)
+count-true n h = (grind (arith, nat_tests), grind (arith, nat_tests))
+
+count-false : (n : ℕ) → is_count n ≡ false → 1 ≤ n → n ≤ 16 → ⊥
+count-false n h low high = grind (arith, nat_tests)
+
+pub fault-is : (sources outs : ℕ) (routes : List (ℕ × ℕ)) → FaultIs sources outs routes (first_fault sources outs routes)
+fault-is sources outs routes = by_test (is_count sources) (is_count outs) refl refl where
+  by_route : (f : Option RouterFault) → AreCounts sources outs → route_fault sources outs [] routes ≡ f → FaultIs sources outs routes f
+  by_route None are is = (are, route-right sources outs [] routes is)
+  by_route (Some fault.Count) are is = absurd (route-wrong sources outs [] routes fault.Count is).why
+  by_route (Some fault.Index) are is = (are, route-wrong sources outs [] routes fault.Index is)
+  by_route (Some fault.Twice) are is = (are, route-wrong sources outs [] routes fault.Twice is)
+  by_route (Some (fault.Memory memory)) are is = (route-wrong sources outs [] routes (fault.Memory memory) is).why
+
+  by_test : (s o : Bool) → is_count sources ≡ s → is_count outs ≡ o → FaultIs sources outs routes (if s && o then route_fault sources outs [] routes else Some fault.Count)
+  by_test true true hs ho =
+      let s = count-true sources hs in
+      let o = count-true outs ho in
+      by_route (route_fault sources outs [] routes) (s.0, s.1, o.0, o.1) refl
+  by_test true false hs ho = λ are. count-false outs ho are.2 are.3
+  by_test false o hs ho = λ are. count-false sources hs are.0 are.1

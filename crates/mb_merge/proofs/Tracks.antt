@@ -1,7 +1,7 @@
 -- What is kept of each source is what the marks taken and passed say, and its outs stay.
 use Rattle.std.proofs.Common.{◌≡◌, ◌≢◌, ℕ, ◌<◌, ◌⊎◌, inl, inr, Bool, true, false, if◌then◌else◌, List, [], ◌∷◌, ◌++◌, length, Option, Some, None, get_or, refl, sym, ◌∙◌, ap, subst, arith, append-nil}
 use Rattle.std.specs.Prelude.{slice_set, slice_get}
-use Rattle.std.proofs.lemmas.List.FromFn.{get_or-map-range_with_len}
+use Rattle.std.proofs.lemmas.List.FromFn.{get_or-map-range_with_len, length-map-range_with_len}
 use Rattle.mb_message.specs.declared.mark.Mark.{Mark}
 use Rattle.mb_merge.specs.declared.source.Held.{Held}
 use Rattle.mb_merge.specs.declared.router.Passed.{Passed}
@@ -15,14 +15,14 @@ use Rattle.mb_merge.proofs.Flows.{link_at-set_same, link_at-set_other, length-li
 use Rattle.mb_merge.proofs.Fits.{same_number, other_number, offer_at}
 use Rattle.mb_merge.proofs.Histories.{Keeps, taken_mark, offer_source, keeps-call, keeps-begins}
 
-open_from-push : (source : ℕ) (before : Bool) (ps : List Passed) (p : Passed) → open_from source before (ps ++ p ∷ []) ≡ open_step source (open_from source before ps) p
+pub open_from-push : (source : ℕ) (before : Bool) (ps : List Passed) (p : Passed) → open_from source before (ps ++ p ∷ []) ≡ open_step source (open_from source before ps) p
 open_from-push source before [] p = refl
 open_from-push source before (q ∷ qs) p = open_from-push source (open_step source before q) qs p
 
-open_step-own : (source : ℕ) (before : Bool) (p : Passed) → p.source ≡ source → open_step source before p ≡ opens before p.mark
+pub open_step-own : (source : ℕ) (before : Bool) (p : Passed) → p.source ≡ source → open_step source before p ≡ opens before p.mark
 open_step-own source before p same = ap (λ t. if t then opens before p.mark else before) (same_number p.source source same)
 
-open_step-other : (source : ℕ) (before : Bool) (p : Passed) → p.source ≢ source → open_step source before p ≡ before
+pub open_step-other : (source : ℕ) (before : Bool) (p : Passed) → p.source ≢ source → open_step source before p ≡ before
 open_step-other source before p apart = ap (λ t. if t then opens before p.mark else before) (other_number p.source source apart)
 
 -- a property of every link stays where one link is set that has it
@@ -86,7 +86,7 @@ tracks-next : (start : Merger) (h : History) (offered : Option Passed) → HasSo
 tracks-next start h None below t = tracks-held start h (least h.now.links) (least-IsLeast h.now.links) t
 tracks-next start h (Some p) below t = tracks-pass start h p (after_pass (link_of h.now p.source) p.mark) None below refl refl refl t
 
-tracks-call : (start : Merger) (h : History) (call : Call) → HasSource h.now.links h.now.offered → IsTracked start h → IsTracked start (after_call h call)
+pub tracks-call : (start : Merger) (h : History) (call : Call) → HasSource h.now.links h.now.offered → IsTracked start h → IsTracked start (after_call h call)
 tracks-call start h Next below t = tracks-next start h h.now.offered below t
 tracks-call start h (Offer source moment mk) below t = by_test (may_offer h.now source moment mk) refl where
   by_test : (may : Bool) → may_offer h.now source moment mk ≡ may → IsTracked start (if may then taken_in h source moment mk else h)
@@ -97,16 +97,22 @@ tracks-calls : (start : Merger) (h : History) (calls : List Call) → Keeps h �
 tracks-calls start h [] k t = t
 tracks-calls start h (call ∷ calls) k t = tracks-calls start (after_call h call) calls (keeps-call h call k) (tracks-call start h call k.fits.source t)
 
-pub tracked : (m : Merger) (calls : List Call) → IsFresh m → IsTracked m (after_calls (begins m) calls)
-tracked m calls fresh = tracks-calls m (begins m) calls (keeps-begins m fresh) (record {
+pub tracks-begins : (m : Merger) → IsFresh m → IsTracked m (begins m)
+tracks-begins m fresh = record {
   sources = refl;
   outs = refl;
   routes = λ source. refl;
   opened = λ source. (fresh.closed source).not_open;
   sysex = λ source. (fresh.closed source).outside;
-})
+}
+
+pub tracked : (m : Merger) (calls : List Call) → IsFresh m → IsTracked m (after_calls (begins m) calls)
+tracked m calls fresh = tracks-calls m (begins m) calls (keeps-begins m fresh) (tracks-begins m fresh)
 
 pub routed : (sources outs source out : ℕ) (routes : List (ℕ × ℕ)) → source < sources → out < 16 → get_or (link_of (opened sources outs routes) source).outs out false ≡ stands_in (source, out) routes
 routed sources outs source out routes source_below out_below =
     ap (λ l. get_or l.outs out false) (get_or-map-range_with_len (λ s. closed_link (outs_of s routes)) 0 sources source source (closed_link []) source_below (omega arith)) ∙
     get_or-map-range_with_len (λ o. stands_in (source, o) routes) 0 16 out out false out_below (omega arith)
+
+pub as_many : (sources outs : ℕ) (routes : List (ℕ × ℕ)) → length (opened sources outs routes).links ≡ sources
+as_many sources outs routes = length-map-range_with_len (λ s. closed_link (outs_of s routes)) 0 sources

@@ -9,7 +9,11 @@
 --   IsOrderly h           no mark passes twice and none is lost, each source's order is kept, no two dumps mix, and a
 --                         drained router holds a mark only where it waits for another source
 --   IsTracked start h     what is kept of each source is what the marks taken and passed say; its outs stay
-use Rattle.std.specs.Prelude.{◌≡◌, ◌≢◌, ℕ, ◌<◌, ◌≤◌, ◌⊎◌, Bool, true, false, not, ◌&&◌, ◌==◌, nat_lt, nat_le, if◌then◌else◌, List, [], ◌∷◌, ◌++◌, length, map, filter, Option, Some, None}
+--   to_out m out marks    those of a source that goes to an out
+--   AreSuiting open ms    the marks may stand one after another, a SysEx being open before them or not
+--   IsUnmixed start ms    what passed to an out may stand there, and no mark but a real-time one stands inside another
+--                         source's SysEx there
+use Rattle.std.specs.Prelude.{slice_index_or, ◌≡◌, ◌≢◌, ℕ, ◌<◌, ◌≤◌, ◌⊎◌, Bool, true, false, not, ◌&&◌, ◌==◌, nat_lt, nat_le, if◌then◌else◌, List, [], ◌∷◌, ◌++◌, length, map, filter, Option, Some, None}
 use Rattle.mb_message.specs.declared.mark.Mark.{Mark}
 use Rattle.mb_message.specs.Signs.{sign_of, suits_sign}
 use Rattle.mb_merge.specs.declared.source.Held.{Held}
@@ -100,6 +104,8 @@ pub record IsOrderly (h : History) : Type 0 where
   -- a real-time mark has passed, or is the one just offered
   pub realtimes : (source : ℕ) → filter (at_once source) h.taken ≡ filter (at_once source) h.passed ++ filter (at_once source) (one h.now.offered)
   pub exclusive : IsExclusive h.now.links
+  -- a mark just offered is still to pass only while the router is draining
+  pub idle : h.now.draining ≡ false → h.now.offered ≡ None
   pub settled : h.now.draining ≡ false → IsSettled h.now
   -- a first held mark is one that may come next, by what has passed of its source
   pub heads_suit : h.now.offered ≡ None → (source : ℕ) (held : Held) (more : List Held) → source < length h.now.links →
@@ -133,3 +139,21 @@ pub record IsTracked (start : Merger) (h : History) : Type 0 where
   pub opened : (source : ℕ) → (link_of h.now source).is_open ≡ open_by source h.passed
   -- and its next mark suits by what was taken
   pub sysex : (source : ℕ) → (link_of h.now source).in_sysex ≡ open_by source h.taken
+
+abbrev pub goes_to : Merger → (out source : ℕ) → Bool
+goes_to m out source = slice_index_or (link_of m source).outs out false
+
+abbrev pub to_out : Merger → (out : ℕ) → List Passed → List Passed
+to_out m out marks = filter (λ p. goes_to m out p.source) marks
+
+abbrev pub AreSuiting : (open_now : Bool) → List Passed → Type 0
+AreSuiting open_now [] = Unit {0}
+AreSuiting open_now (p ∷ ps) = (suits_sign open_now (sign_of p.mark) ≡ true) × AreSuiting (opens open_now p.mark) ps
+
+pub record IsUnmixed (start : Merger) (passed : List Passed) : Type 0 where
+  -- whatever sources go to it
+  pub suits : (out : ℕ) → AreSuiting false (to_out start out passed)
+  -- where another source's SysEx is open, a mark passes only if they have no out in common
+  pub alone : (before after : List Passed) (p : Passed) → passed ≡ before ++ p ∷ after → is_realtime_mark p.mark ≡ false →
+      (other : ℕ) → other < length start.links → other ≢ p.source → open_by other before ≡ true →
+      share (link_of start other).outs (link_of start p.source).outs ≡ false

@@ -96,7 +96,8 @@ impl Router {
         ensures ok { OnOk result (self.new ≡ offered_in self.old source moment mark) }
         ensures full { IsErr result ↔ (has_room self.old source mark ≡ false) }
         ensures err { OnErr result (self.new ≡ self.old) }
-        ensures held { IfErr result (λ full. full.held ≡ 1024) }
+        ensures held { IfErr result (λ full. full.held ≡ length (link_of self.old source).held) }
+        ensures room { IfErr result (λ full. full.held ≡ 1024) }
     {
         let passes = self.passes_now(source, mark);
         self.sources[source as usize].take(passes, moment, mark)?;

@@ -141,7 +141,8 @@ impl Source {
         ensures ok { OnOk result (self.new ≡ taken self.old passes moment mark) }
         ensures full { IsErr result ↔ (has_room_in self.old passes ≡ false) }
         ensures err { OnErr result (self.new ≡ self.old) }
-        ensures held { IfErr result (λ full. full.held ≡ 1024) }
+        ensures held { IfErr result (λ full. full.held ≡ length self.old.held) }
+        ensures room { IfErr result (λ full. full.held ≡ 1024) }
     {
         if !passes {
             let held = Held {
@@ -149,7 +150,7 @@ impl Source {
                 mark,
             };
             if self.held.try_push_back(held).is_err() {
-                return Err(Full { held: 1024 });
+                return Err(Full { held: self.held() });
             }
         }
         self.in_sysex = is_open_behind(self.in_sysex, mark);

@@ -120,6 +120,27 @@ fn faults_of_the_opening(rt: HostRuntime) -> Result<(), Fail> {
 }
 
 #[test]
+fn texts_of_faults(rt: HostRuntime) -> Result<(), Fail> {
+    let table = [
+        (RouterFault::Count, "sources and outs are 1 to 16 each"),
+        (
+            RouterFault::Index,
+            "a route names a source or an out that there isn't",
+        ),
+        (RouterFault::Twice, "a route stands twice"),
+        (
+            RouterFault::Memory(mb_message::Memory),
+            "there was no memory",
+        ),
+    ];
+    for (fault, text) in table {
+        let told = format!(in rt.alloc(); "{fault}")?;
+        assert_eq!(rt; told.as_str(), text);
+    }
+    Ok(())
+}
+
+#[test]
 fn a_full_source(rt: HostRuntime) -> Result<(), Fail> {
     let note = Mark::Short(Short::new(0x90, 0x3c, 0x64).ok_or("a note")?);
     let clock = Mark::Rt(Rt::new(0xf8).ok_or("a clock")?);

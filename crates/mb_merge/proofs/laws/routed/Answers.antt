@@ -1,5 +1,8 @@
-use Rattle.mb_merge.proofs.Tracks.{routed}
+use Rattle.mb_merge.proofs.Tracks.{routed, as_many}
 use Rattle.mb_merge.proofs.laws.routed.Goals as goal
 
-pub returns : goal.returns
-returns c = routed
+pub returns-clause-count : goal.returns-clause-count
+returns-clause-count c = as_many
+
+pub returns-clause-goes : goal.returns-clause-goes
+returns-clause-goes c = routed
