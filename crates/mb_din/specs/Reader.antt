@@ -6,14 +6,18 @@
 --   Goes was now ..         what a call took, what it answered, and that the reader stands for both
 --   IsFrontTaken ..         a call takes a front of its input
 --   IsLongest left seen     a run is the longest that stands side by side in the input
-use Rattle.std.specs.Prelude.{◌≡◌, ℕ, ◌+◌, ◌<◌, ◌≤◌, true, false, List, [], ◌∷◌, ◌++◌, map, length}
+--   breaks told             a message that was begun, or a SysEx, is broken by the next status
+--   StatusNext left         and that status still stands in the input
+use Rattle.std.specs.Prelude.{◌≡◌, ℕ, ◌+◌, ◌<◌, ◌≤◌, Bool, true, false, List, [], ◌∷◌, ◌++◌, map, length}
 use Rattle.mb_message.specs.Bytes.{is_data, is_channel}
+use Rattle.mb_message.specs.Signs.{AbortSign}
+use Rattle.mb_message.specs.declared.note.NoteKind.TheVariants.{Truncated}
 use Rattle.mb_message.specs.declared.event.Seen.{Seen}
 use Rattle.mb_message.specs.declared.event.Seen.TheVariants as seen
 use Rattle.mb_message.specs.declared.event.Ev.TheVariants as event
 use Rattle.mb_stream.specs.Payload.{Entry, Heard, Silent, heard_from}
 use Rattle.mb_stream.specs.Groups.{last_of}
-use Rattle.mb_stream.specs.Told.{Told, Known}
+use Rattle.mb_stream.specs.Told.{Told, Marks, Notes, Known}
 use Rattle.mb_stream.specs.Reading.{so_far}
 use Rattle.mb_din.specs.State.{State, idle, state_of}
 
@@ -72,3 +76,14 @@ NoDataNext (b ∷ bs) = is_data b ≡ false
 abbrev pub IsLongest : List ℕ → Seen → Type 0
 IsLongest left (seen.Ev (event.Run bytes)) = NoDataNext left
 IsLongest left _ = Unit {0}
+
+-- a message that was begun, or an open SysEx, is broken
+abbrev pub breaks : List Told → Bool
+breaks (Marks AbortSign ∷ ts) = true
+breaks (Notes at Truncated ∷ ts) = true
+breaks _ = false
+
+-- a status begins the list
+abbrev pub StatusNext : List ℕ → Type 0
+StatusNext [] = ⊥
+StatusNext (b ∷ bs) = is_data b ≡ false

@@ -9,7 +9,7 @@ ghost use Rattle.mb_stream.specs.Reading.{so_far};
 ghost use Rattle.mb_stream.specs.Working.{RisesFrom};
 ghost use Rattle.mb_din.specs.State.{owed, open_now, may_run_now, fresh, is_sound};
 ghost use Rattle.mb_din.specs.Turn.{answer, told_by, one, run, turn};
-ghost use Rattle.mb_din.specs.Reader.{Stands, Goes, IsFront, IsFrontTaken, IsLongest};
+ghost use Rattle.mb_din.specs.Reader.{Stands, Goes, IsFront, IsFrontTaken, IsLongest, breaks, StatusNext};
 
 use crate::progress::{
     Progress, at_end, before_status, is_open, is_running, realtime, take_data, take_run,
@@ -78,6 +78,9 @@ impl DinReader {
             IsFront told (so_far (entries ++ heard_from self.old.offset moment input.old.now)) →
             told ≡ so_far (entries ++ heard_from self.old.offset moment input.old.now)) }
         ensures longest { IfSome result (IsLongest input.new.now) }
+
+        // What a status breaks is told of while the status still stands in the input.
+        ensures before { breaks (answer result) ≡ true → StatusNext input.new.now }
 
         // A caller's loop ends by this.
         ensures progress { OnSome result (2 * length input.new.now + owed self.new < 2 * length input.old.now + owed self.old) }

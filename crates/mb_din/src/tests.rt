@@ -75,3 +75,37 @@ fn running_status_and_a_sysex_are_written(rt: HostRuntime) -> Result<(), Fail> {
     );
     Ok(())
 }
+
+#[test]
+fn a_clock_cuts_a_run(rt: HostRuntime) -> Result<(), Fail> {
+    let mut reader = DinReader::new();
+    let mut input: &[u8] = &[0xf0, 1, 2, 0xf8, 3, 0xf7];
+    let clock = Rt::new(0xf8).ok_or("a clock")?;
+    assert_eq!(rt; reader.next(&mut input), Some(Seen::Ev(Ev::Open)));
+    assert_eq!(rt; reader.next(&mut input), Some(Seen::Ev(Ev::Run(&[1, 2]))));
+    assert_eq!(rt; reader.next(&mut input), Some(Seen::Ev(Ev::Rt(clock))));
+    assert_eq!(rt; reader.next(&mut input), Some(Seen::Ev(Ev::Run(&[3]))));
+    assert_eq!(rt; reader.next(&mut input), Some(Seen::Ev(Ev::End)));
+    assert_eq!(rt; reader.next(&mut input), None);
+    assert_eq!(rt; reader.finish(), None);
+    Ok(())
+}
+
+#[test]
+fn each_status_and_a_broken_sysex_are_written(rt: HostRuntime) -> Result<(), Fail> {
+    let mut writer = DinWriter::new(false);
+    let mut out = Buf::new();
+    let program = Short::new(0xc1, 5, 0).ok_or("a program change")?;
+    writer.put(Ev::Short(program), &mut out);
+    writer.put(Ev::Short(program), &mut out);
+    writer.put(Ev::Open, &mut out);
+    writer.put(Ev::Run(&[7]), &mut out);
+    writer.put(Ev::Abort, &mut out);
+    assert!(rt; !writer.in_sysex());
+    writer.put(Ev::Short(program), &mut out);
+    assert_eq!(rt;
+        out.as_slice(),
+        [0xc1, 5, 0xc1, 5, 0xf0, 7, 0xc1, 5].as_slice()
+    );
+    Ok(())
+}

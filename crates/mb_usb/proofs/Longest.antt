@@ -5,7 +5,7 @@ use Rattle.std.proofs.lemmas.List.{append-nil, length-take}
 use Rattle.std.proofs.lemmas.Bool.{cases_lt}
 use Rattle.mb_message.specs.declared.event.Seen.{Seen}
 use Rattle.mb_stream.specs.Told.{Told}
-use Rattle.mb_din.specs.Reader.{IsLongest}
+use Rattle.mb_din.specs.Reader.{IsLongest, StatusNext}
 use Rattle.mb_din.specs.State.{State}
 use Rattle.mb_din.specs.Turn.{answer}
 use Rattle.mb_usb.specs.declared.under.Under.{Under}
@@ -57,3 +57,8 @@ pub longest : (was now : Packet) (r s : State) (input left kept : List ℕ) (see
     IfSome seen (IsLongest (take (left_of now.under) left))
 longest was now r s input left kept seen h e run =
     subst (λ z. IfSome seen (IsLongest z)) (sym (kept-is was now r s input left (answer seen) h ∙ e)) run
+
+-- a status that stands in the packet's bytes stands in the input
+pub status-stays : (kept more : List ℕ) → StatusNext kept → StatusNext (kept ++ more)
+status-stays [] more h = absurd h
+status-stays (b ∷ bs) more h = h

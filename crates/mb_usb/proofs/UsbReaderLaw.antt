@@ -32,17 +32,18 @@ pub next-all_told : {X : Type 0} (was : UsbState) (p : Packet) (dins : List Stat
     IfNone result (AllTold all_cables_so_far (UsbHolds p dins) input) → IfNone result (UsbAllTold was input)
 next-all_told was p dins input result e all = subst (λ (s : UsbState). IfNone result (UsbAllTold s input)) e all
 
-pub finish-told : (was : UsbState) (p : Packet) (dins : List State) (cable : ℕ) (d : State) (answer : List Told) → usb_state p dins ≡ was → cable < 16 → cable < length dins →
+-- `was` is the reader when it had told all that is known of the bytes; of other cables since then perhaps the end was told
+pub finish-told : (was : UsbState) (dins : List State) (cable : ℕ) (d : State) (answer : List Told) → reader_at dins cable ≡ reader_at was.readers cable → cable < 16 → cable < length dins →
     ((es : List Entry) → Stands (get_or dins cable d) es (so_far es) → answer ≡ at_end (last_of es)) →
     (bytes : List ℕ) → UsbStands was bytes (all_cables_so_far bytes) → answer ≡ at_end (last_of (cable_payload cable bytes))
-finish-told was p dins cable d answer e low here says bytes h =
-    let known : UsbHolds p dins bytes (all_known (usb each_cable) 16 bytes) =
-    subst (UsbHolds p dins bytes) (sym (each_law bytes)) (subst (λ (s : UsbState). UsbStands s bytes (all_cables_so_far bytes)) (sym e) h) in
-    let stands : Stands (reader_at dins cable) (port_payload cable (events (usb each_cable) bytes)) (so_far (port_payload cable (events (usb each_cable) bytes))) =
-    finish-stands (usb each_cable) 16 each_low p.offset p.under (listed p.due) (reader_at dins) bytes known cable low in
-    let own : Stands (reader_at dins cable) (cable_payload cable bytes) (so_far (cable_payload cable bytes)) =
-    subst (λ es. Stands (reader_at dins cable) es (so_far es)) (each-payload cable bytes low) stands in
-    says (cable_payload cable bytes) (subst (λ (s : State). Stands s (cable_payload cable bytes) (so_far (cable_payload cable bytes))) (get_or_default dins cable din.fresh d here) own)
+finish-told was dins cable d answer same low here says bytes h =
+    let p = was.packet in
+    let known : UsbHolds p was.readers bytes (all_known (usb each_cable) 16 bytes) = subst (UsbHolds p was.readers bytes) (sym (each_law bytes)) h in
+    let stands : Stands (reader_at was.readers cable) (port_payload cable (events (usb each_cable) bytes)) (so_far (port_payload cable (events (usb each_cable) bytes))) =
+    finish-stands (usb each_cable) 16 each_low p.offset p.under (listed p.due) (reader_at was.readers) bytes known cable low in
+    let own : Stands (reader_at was.readers cable) (cable_payload cable bytes) (so_far (cable_payload cable bytes)) =
+    subst (λ es. Stands (reader_at was.readers cable) es (so_far es)) (each-payload cable bytes low) stands in
+    says (cable_payload cable bytes) (subst (λ (s : State). Stands s (cable_payload cable bytes) (so_far (cable_payload cable bytes))) (sym same ∙ get_or_default dins cable din.fresh d here) own)
 
 pub new-stands : (p : Packet) (dins : List State) → p ≡ record { offset = 0; under = Between; due = None } → ((c : ℕ) → c < 16 → Stands (reader_at dins c) [] []) → UsbHolds p dins [] []
 new-stands p dins e fresh =

@@ -1,13 +1,14 @@
 -- What is done with bytes of the packet under way that its cable carries: they are handed to the cable's reader, which takes a front
 -- of them.
-use Rattle.std.specs.Prelude.{◌≡◌, ℕ, ◌+◌, List, ◌++◌, length, take, drop}
+use Rattle.std.specs.Prelude.{◌≡◌, ℕ, ◌+◌, true, List, ◌++◌, length, take, drop}
 use Rattle.mb_stream.specs.Payload.{Entry}
 use Rattle.mb_stream.specs.Told.{Told}
 use Rattle.mb_stream.specs.Reading.{so_far}
 use Rattle.mb_message.specs.declared.event.PortSeen.{PortSeen}
 use Rattle.mb_message.specs.declared.event.PortSeen.TheVariants as port_seen
-use Rattle.mb_din.specs.Reader.{Stands, IsLongest}
+use Rattle.mb_din.specs.Reader.{Stands, IsLongest, breaks, StatusNext}
 use Rattle.mb_din.specs.State.{State}
+use Rattle.mb_din.specs.Turn.{told_by}
 use Rattle.mb_ports.specs.Reader.{NextSays}
 use Rattle.mb_usb.specs.declared.under.Packet.{Packet}
 use Rattle.mb_usb.specs.Under.{left_of, packet_behind}
@@ -24,6 +25,11 @@ placed p r = record r { offset = p.offset }
 abbrev pub IsLongestOf : (left : List ℕ) → PortSeen → Type 0
 IsLongestOf left (port_seen.Port c seen) = IsLongest left seen
 IsLongestOf left (port_seen.Unit n) = Unit {0}
+
+-- what a status breaks on its cable is told of while the status still stands in the input
+abbrev pub BreaksBefore : (left : List ℕ) → PortSeen → Type 0
+BreaksBefore left (port_seen.Port c seen) = breaks (told_by seen) ≡ true → StatusNext left
+BreaksBefore left (port_seen.Unit n) = Unit {0}
 
 -- `kept` are those of the piece that were not taken
 pub record Hands (was now : Packet) (reader reader_now : State) (input left : List ℕ) (answer : List Told) : Type 0 where

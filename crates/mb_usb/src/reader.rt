@@ -1,18 +1,18 @@
 //! The reader of all cables.
 
-ghost use Rattle.std.specs.Prelude.{◌≡◌, ◌≢◌, ◌+◌, ◌*◌, ◌/◌, ◌%◌, ◌<◌, ◌^◌, None, [], ℕ, List, length, take, drop, OnSome, IfSome, IfNone};
+ghost use Rattle.std.specs.Prelude.{◌≡◌, ◌≢◌, ◌+◌, ◌*◌, ◌/◌, ◌%◌, ◌<◌, ◌^◌, true, None, [], ℕ, List, length, take, drop, OnSome, IfSome, IfNone};
 ghost use Rattle.mb_din.specs.Turn.{answer};
-ghost use Rattle.mb_din.specs.Reader.{IsLongest};
+ghost use Rattle.mb_din.specs.Reader.{IsLongest, breaks, StatusNext};
 ghost use Rattle.mb_din.specs.State.{fresh};
 ghost use Rattle.mb_usb.specs.Under.{left_of, head_of};
-ghost use Rattle.mb_usb.specs.Hands.{Hands, IsLongestOf};
+ghost use Rattle.mb_usb.specs.Hands.{Hands, IsLongestOf, BreaksBefore};
 ghost use Rattle.mb_stream.specs.Groups.{last_of};
 ghost use Rattle.mb_stream.specs.Told.{at_end};
 ghost use Rattle.mb_ports.specs.Events.{Ported};
 ghost use Rattle.mb_ports.specs.Reader.{Tells, AllTold};
 ghost use Rattle.mb_usb.specs.Reading.{cable_payload};
 ghost use Rattle.mb_usb.specs.Cables.{all_cables_so_far, UsbHolds, UsbStands, UsbTells, UsbAllTold, port_answer};
-ghost use Rattle.mb_usb.specs.State.{owed, owed_of, AreBehind, reader_at};
+ghost use Rattle.mb_usb.specs.State.{UsbState, owed, owed_of, AreBehind, reader_at};
 
 use crate::carry::carry;
 use crate::under::{Packet, cable, left, taken};
@@ -68,6 +68,7 @@ impl UsbReader {
         ensures all_told { IfNone result (UsbAllTold self.old input.old.now) }
         ensures end { self.new.packet.offset + length input.new.now ≡ self.old.packet.offset + length input.old.now }
         ensures longest { IfSome result (IsLongestOf (take (left_of self.new.packet.under) input.new.now)) }
+        ensures before { IfSome result (BreaksBefore input.new.now) }
         ensures none { IfNone result (input.new.now ≡ []) }
 
         // A caller's loop ends by this.
@@ -81,6 +82,9 @@ impl UsbReader {
     pub fn finish_port(&mut self, cable: u8) -> Option<Seen<'static>>
         requires { cable < 16 }
         ensures told { (bytes : List ℕ) → UsbStands self.old bytes (all_cables_so_far bytes) → answer result ≡ at_end (last_of (cable_payload cable bytes)) }
+        // The same where all was told of the bytes, and other cables were finished since.
+        ensures in_turn { (was : UsbState) → reader_at self.old.readers cable ≡ reader_at was.readers cable →
+            (bytes : List ℕ) → UsbStands was bytes (all_cables_so_far bytes) → answer result ≡ at_end (last_of (cable_payload cable bytes)) }
         ensures as_fresh { reader_at self.new.readers cable ≡ record fresh { offset = (reader_at self.old.readers cable).offset } }
         ensures others { (c : ℕ) → c ≢ cable → reader_at self.new.readers c ≡ reader_at self.old.readers c }
         ensures packets { self.new.packet ≡ self.old.packet }
@@ -111,6 +115,7 @@ fn read<'a>(
     ensures behind { AreBehind packet.new dins.new }
     ensures end { packet.new.offset + length input.new.now ≡ packet.old.offset + length input.old.now }
     ensures longest { IfSome result (IsLongestOf (take (left_of packet.new.under) input.new.now)) }
+    ensures before { IfSome result (BreaksBefore input.new.now) }
     ensures none { IfNone result (input.new.now ≡ []) }
     ensures progress { OnSome result (2 * length input.new.now + owed_of packet.new (reader_at dins.new (head_of packet.new.under / 16)) < 2 * length input.old.now + owed_of packet.old (reader_at dins.old (head_of packet.old.under / 16))) }
 {
@@ -153,6 +158,7 @@ fn carry_at<'a>(
     ensures behind { AreBehind packet.new dins.new }
     ensures some { OnSome result (answer result ≡ [] → ⊥) }
     ensures longest { IfSome result (IsLongest (take (left_of packet.new.under) input.new.now)) }
+    ensures before { breaks (answer result) ≡ true → StatusNext input.new.now }
     ensures none { IfNone result (input.new.now ≡ drop (left_of packet.old.under) input.old.now) }
     ensures end { packet.new.offset + length input.new.now ≡ packet.old.offset + length input.old.now }
     ensures progress { OnSome result (2 * length input.new.now + owed_of packet.new (reader_at dins.new (head_of packet.new.under / 16)) < 2 * length input.old.now + owed_of packet.old (reader_at dins.old (head_of packet.old.under / 16))) }

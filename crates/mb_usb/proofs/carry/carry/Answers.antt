@@ -1,9 +1,10 @@
-use Rattle.std.proofs.Common.{◌≡◌, length, min, take, arith, rules}
+use Rattle.std.proofs.Common.{◌≡◌, length, min, take, drop, sym, subst, arith, rules}
 use Rattle.mb_usb.specs.Under.{left_of}
 use Rattle.mb_usb.specs.Hands.{Hands}
 use Rattle.mb_din.specs.Turn.{answer}
+use Rattle.mb_din.specs.Reader.{StatusNext}
 use Rattle.mb_usb.proofs.HandsLemmas.{hands-kept, hands-end, hands-at}
-use Rattle.mb_usb.proofs.Longest.{longest}
+use Rattle.mb_usb.proofs.Longest.{longest, status-stays}
 use Rattle.mb_usb.proofs.carry.carry.Goals as goal
 
 both : (c : goal.After-pass_all) →
@@ -21,6 +22,12 @@ pub returns-clause-longest : goal.returns-clause-longest
 returns-clause-longest c =
     let h = both c in
     longest c.args.packet.now c.pass_all.new.self c.args.din.now c.next-seen.new.self c.args.input.now.now c.split_at-2.result.1.now c.next-seen.new.input.now c.next-seen.result h.0 h.1 c.next-seen.ensures.longest
+
+pub returns-clause-before : goal.returns-clause-before
+returns-clause-before c e =
+    let h = both c in
+    let own : StatusNext h.0.kept = subst StatusNext (sym h.1) (c.next-seen.ensures.before e) in
+    subst StatusNext (sym h.0.left_is) (status-stays h.0.kept (drop (left_of c.args.packet.now.under) c.args.input.now.now) own)
 
 pub returns-clause-end : goal.returns-clause-end
 returns-clause-end c = hands-end c.args.packet.now c.pass_all.new.self c.args.din.now c.next-seen.new.self c.args.input.now.now c.split_at-2.result.1.now _ (both c).0
