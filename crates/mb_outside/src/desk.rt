@@ -1,6 +1,6 @@
 //! The desk: where the program reads and writes.
 
-ghost use Rattle.std.specs.Prelude.{◌≡◌, ℕ, ◌≤◌, Bool, IsTrue, IfOk, length};
+ghost use Rattle.std.specs.Prelude.{◌≡◌, ℕ, ◌≤◌, Bool, IsTrue, IfOk, OnOk, length};
 ghost use Rattle.mb_outside.specs.Cause.{HasCause};
 ghost use Rattle.mb_outside.specs.Contents.{Contents, is_readable, is_writable, Reads, Writes, TakesSome};
 
@@ -16,26 +16,31 @@ pub trait Desk {
     /// What the handles hold; nothing is said of it where the desk doesn't tell.
     ghost contents: { Self → Contents };
 
-    /// How often reading has failed; it never falls.
+    /// How often reading has failed; it never falls, and rises at a failure alone.
     ghost read_faults: { Self → ℕ };
 
-    /// How often writing has failed; it never falls.
+    /// How often writing has failed; it never falls, and rises at a failure alone.
     ghost write_faults: { Self → ℕ };
 
     /// Takes the first bytes that are left into the buffer, and answers how many. Where the buffer has room, 0 comes
-    /// exactly at the end.
+    /// exactly at the end. Any handle but standard input fails.
     fn read(&mut self, h: u32, buf: &mut [u8]) -> Result<usize, Failed>
         requires { IsTrue tells → IsTrue (is_readable (contents self.old) h) }
         ensures bound { IfOk result (λ count. count ≤ length buf.new) }
         ensures contents { IsTrue tells → Reads (contents self.old) (contents self.new) h result buf.new }
         ensures cause { HasCause (read_faults self.old) (read_faults self.new) result }
+        ensures sound { OnOk result (read_faults self.new ≡ read_faults self.old) }
+        ensures known { OnOk result (IsTrue (is_readable (contents self.old) h)) }
         ensures write_faults { write_faults self.new ≡ write_faults self.old };
 
-    /// Writes some first bytes of the piece, and answers how many: at least one where there is one.
+    /// Writes some first bytes of the piece, and answers how many: at least one where there is one. Any handle but standard
+    /// output and standard error fails.
     fn write(&mut self, h: u32, piece: &[u8]) -> Result<usize, Failed>
         requires { IsTrue tells → IsTrue (is_writable (contents self.old) h) }
         ensures bound { IfOk result (λ count. TakesSome count piece.now) }
         ensures contents { IsTrue tells → Writes (contents self.old) (contents self.new) h result piece.now }
         ensures cause { HasCause (write_faults self.old) (write_faults self.new) result }
+        ensures sound { OnOk result (write_faults self.new ≡ write_faults self.old) }
+        ensures known { OnOk result (IsTrue (is_writable (contents self.old) h)) }
         ensures read_faults { read_faults self.new ≡ read_faults self.old };
 }

@@ -174,11 +174,12 @@ impl Desk for MemoryDesk {
         ensures bound { IfOk result (λ count. count ≤ length buf.new) }
         ensures contents { Reads (contents_of self.old) (contents_of self.new) h result buf.new }
         ensures cause { HasCause self.old.read_faults self.new.read_faults result }
+        ensures sound { OnOk result (self.new.read_faults ≡ self.old.read_faults) }
+        ensures known { OnOk result (IsTrue (is_readable (contents_of self.old) h)) }
         ensures write_faults { self.new.write_faults ≡ self.old.write_faults }
 
         ensures fails { is_ok result ≡ not (is_planned self.old) }
         ensures count { IfOk result (λ count. count ≡ count_of_read self.old (length buf.old)) }
-        ensures sound { OnOk result (self.new.read_faults ≡ self.old.read_faults) }
     {
         if self.is_to_fail() {
             self.read_faults = self.read_faults.saturating_add(1);
@@ -196,11 +197,12 @@ impl Desk for MemoryDesk {
         ensures bound { IfOk result (λ count. TakesSome count piece.now) }
         ensures contents { Writes (contents_of self.old) (contents_of self.new) h result piece.now }
         ensures cause { HasCause self.old.write_faults self.new.write_faults result }
+        ensures sound { OnOk result (self.new.write_faults ≡ self.old.write_faults) }
+        ensures known { OnOk result (IsTrue (is_writable (contents_of self.old) h)) }
         ensures read_faults { self.new.read_faults ≡ self.old.read_faults }
 
         ensures fails { is_ok result ≡ not (is_planned self.old || is_full self.old) }
         ensures count { IfOk result (λ count. count ≡ count_of_write self.old (length piece.now)) }
-        ensures sound { OnOk result (self.new.write_faults ≡ self.old.write_faults) }
     {
         let is_planned = self.is_to_fail();
         if is_planned || self.log.len() == self.room {

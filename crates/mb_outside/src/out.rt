@@ -16,7 +16,7 @@ pub trait Out {
     /// What it took between two of its states.
     ghost took: { Self → List ℕ → Self → Type 0 };
 
-    /// How often it has refused; it never falls.
+    /// How often it has refused; it never falls, and rises at a refusal alone.
     ghost refusals: { Self → ℕ };
 
     /// Takes the piece. After `Refused` it took a beginning of it.
@@ -25,7 +25,8 @@ pub trait Out {
         ensures ready { ready self.new }
         ensures took { OnOk result (took self.old piece.now self.new) }
         ensures front { OnErr result (TookFront took self.old self.new piece.now) }
-        ensures cause { HasCause (refusals self.old) (refusals self.new) result };
+        ensures cause { HasCause (refusals self.old) (refusals self.new) result }
+        ensures sound { OnOk result (refusals self.new ≡ refusals self.old) };
 
     /// Nothing taken leaves all as it is.
     ghost nothing: { (out : Self) → took out [] out };

@@ -1,7 +1,7 @@
 //! The trusted edge: a desk over the process's standard streams. It tells nothing of what they hold.
 
-ghost use Rattle.std.specs.Prelude.{◌≡◌, ◌≤◌, false, length, IfOk};
-ghost use Rattle.mb_outside.specs.Contents.{TakesSome, nothing_told};
+ghost use Rattle.std.specs.Prelude.{◌≡◌, ◌≤◌, false, length, IsTrue, IfOk, OnOk};
+ghost use Rattle.mb_outside.specs.Contents.{is_writable, TakesSome, nothing_told};
 
 use crate::{Desk, Failed};
 use mb_message::Memory;
@@ -35,6 +35,7 @@ impl<R: Runtime> RealDesk<R> {
 
     fn read_some(&mut self, h: u32, buf: &mut [u8]) -> Result<usize, Failed>
         ensures bound { IfOk result (λ count. count ≤ length buf.new) }
+        ensures known { OnOk result (h ≡ 0) }
         ensures read_faults { self.new.read_faults ≡ self.old.read_faults }
         ensures write_faults { self.new.write_faults ≡ self.old.write_faults }
     {
@@ -49,6 +50,7 @@ impl<R: Runtime> RealDesk<R> {
 
     fn write_some(&self, h: u32, piece: &[u8]) -> Result<usize, Failed>
         ensures bound { IfOk result (λ count. TakesSome count piece.now) }
+        ensures known { OnOk result (IsTrue (is_writable nothing_told h)) }
     {
         let count = match h {
             1 => match self.rt.write_some(piece) {

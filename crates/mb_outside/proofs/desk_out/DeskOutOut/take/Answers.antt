@@ -1,4 +1,4 @@
-use Rattle.std.proofs.Common.{arith}
+use Rattle.std.proofs.Common.{◌∙◌, arith}
 use Rattle.std.proofs.lemmas.Grind.{common_steps}
 use Rattle.mb_outside.specs.TakingLaws.{Wrote-more}
 use Rattle.mb_outside.proofs.desk_out.DeskOutOut.take.Goals as goal
@@ -8,6 +8,6 @@ writes-preserved g c =
     record {
       handle = c.writes.invariant.handle;
       name = c.writes.invariant.name;
-      later = omega (arith, c.write.ensures.cause.later);
+      sound = c.in-Ok.ensures.sound ∙ c.writes.invariant.sound;
       wrote = Wrote-more _ _ _ _ _ _ _ _ _ _ _ c.in-Ok.count c.writes.invariant.wrote c.writes.invariant.handle (grind (arith, common_steps)) c.in-Ok.ensures.contents c.write.ensures.read_faults;
     }

@@ -1,4 +1,4 @@
-use Rattle.std.proofs.Common.{◌≡◌, ℕ, ◌≤◌, List, ◌++◌, length}
+use Rattle.std.proofs.Common.{◌≡◌, ℕ, List, ◌++◌, length}
 use Rattle.mb_outside.specs.Taking.{Wrote}
 use Rattle.mb_outside.proofs.desk_out.DeskOutOut.take.Given as goal
 
@@ -9,7 +9,7 @@ invariant-writes g l =
     record {
       handle : l.self.handle ≡ l.fn.self.handle;
       name : l.self.desk.ghost_name ≡ l.fn.self.desk.ghost_name;
-      later : D.write_faults l.fn.self.desk.now ≤ D.write_faults l.self.desk.now;
+      sound : D.write_faults l.self.desk.now ≡ D.write_faults l.fn.self.desk.now;
       wrote : (done : List ℕ) × (l.piece ≡ done ++ l.rest) × Wrote D.tells D.contents D.read_faults l.fn.self.handle l.fn.self.desk.now done l.self.desk.now;
     }
 
