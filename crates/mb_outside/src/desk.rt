@@ -23,24 +23,21 @@ pub trait Desk {
     ghost write_faults: { Self → ℕ };
 
     /// Takes the first bytes that are left into the buffer, and answers how many. Where the buffer has room, 0 comes
-    /// exactly at the end. Any handle but standard input fails.
+    /// exactly at the end.
     fn read(&mut self, h: u32, buf: &mut [u8]) -> Result<usize, Failed>
         requires { IsTrue tells → IsTrue (is_readable (contents self.old) h) }
         ensures bound { IfOk result (λ count. count ≤ length buf.new) }
         ensures contents { IsTrue tells → Reads (contents self.old) (contents self.new) h result buf.new }
         ensures cause { HasCause (read_faults self.old) (read_faults self.new) result }
         ensures sound { OnOk result (read_faults self.new ≡ read_faults self.old) }
-        ensures known { OnOk result (IsTrue (is_readable (contents self.old) h)) }
         ensures write_faults { write_faults self.new ≡ write_faults self.old };
 
-    /// Writes some first bytes of the piece, and answers how many: at least one where there is one. Any handle but standard
-    /// output and standard error fails.
+    /// Writes some first bytes of the piece, and answers how many: at least one where there is one.
     fn write(&mut self, h: u32, piece: &[u8]) -> Result<usize, Failed>
         requires { IsTrue tells → IsTrue (is_writable (contents self.old) h) }
         ensures bound { IfOk result (λ count. TakesSome count piece.now) }
         ensures contents { IsTrue tells → Writes (contents self.old) (contents self.new) h result piece.now }
         ensures cause { HasCause (write_faults self.old) (write_faults self.new) result }
         ensures sound { OnOk result (write_faults self.new ≡ write_faults self.old) }
-        ensures known { OnOk result (IsTrue (is_writable (contents self.old) h)) }
         ensures read_faults { read_faults self.new ≡ read_faults self.old };
 }

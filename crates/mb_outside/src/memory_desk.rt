@@ -175,7 +175,6 @@ impl Desk for MemoryDesk {
         ensures contents { Reads (contents_of self.old) (contents_of self.new) h result buf.new }
         ensures cause { HasCause self.old.read_faults self.new.read_faults result }
         ensures sound { OnOk result (self.new.read_faults ≡ self.old.read_faults) }
-        ensures known { OnOk result (IsTrue (is_readable (contents_of self.old) h)) }
         ensures write_faults { self.new.write_faults ≡ self.old.write_faults }
 
         ensures fails { is_ok result ≡ not (is_planned self.old) }
@@ -198,7 +197,6 @@ impl Desk for MemoryDesk {
         ensures contents { Writes (contents_of self.old) (contents_of self.new) h result piece.now }
         ensures cause { HasCause self.old.write_faults self.new.write_faults result }
         ensures sound { OnOk result (self.new.write_faults ≡ self.old.write_faults) }
-        ensures known { OnOk result (IsTrue (is_writable (contents_of self.old) h)) }
         ensures read_faults { self.new.read_faults ≡ self.old.read_faults }
 
         ensures fails { is_ok result ≡ not (is_planned self.old || is_full self.old) }
