@@ -1,6 +1,6 @@
 //! The denotation of marks that come one by one.
 
-ghost use Rattle.std.specs.Prelude.{◌≡◌, ◌+◌, ◌<◌, ◌≤◌, true, [], ◌∷◌, ◌++◌, List, IfOk, OnErr, OnOk, map, vec_capacity, vec_len};
+ghost use Rattle.std.specs.Prelude.{◌≡◌, ◌+◌, ◌<◌, ◌≤◌, true, false, [], ◌∷◌, ◌++◌, List, IfOk, IsOk, OnErr, OnOk, is_some, map, vec_capacity, vec_len};
 ghost use Rattle.mb_message.specs.Signs.{Sign, ShortSign, RtSign, ByteSign, EndSign, AbortSign, sign_of, suits_sign};
 ghost use Rattle.mb_stream.specs.Denotation.{denotation, left_open};
 ghost use Rattle.mb_denote.specs.Collected.{Stands, in_sysex};
@@ -72,9 +72,10 @@ impl Collector {
         self.collect(mark)
     }
 
-    /// What the marks mean. A SysEx that is still open is broken off. Without memory all is given up.
+    /// What the marks mean. A SysEx that is still open is broken off, which alone takes memory; without it all is given up.
     pub fn finish(self) -> Result<Den, Memory>
-        ensures { (marks : List Sign) → Stands self marks → IfOk result (λ den. denoted den ≡ denotation marks) }
+        ensures closed { in_sysex self ≡ false → IsOk result }
+        ensures means { (marks : List Sign) → Stands self marks → IfOk result (λ den. denoted den ≡ denotation marks) }
     {
         let Collector {
             items,
@@ -166,7 +167,8 @@ impl Collector {
 
 /// The items, with a SysEx that is still open as a broken one.
 fn finished(mut items: Vec<Item>, unfinished: Option<Bytes>) -> Result<Items, Memory>
-    ensures { IfOk result (λ all. map meant all ≡ map meant items.items ++ left_open unfinished) }
+    ensures closed { is_some unfinished ≡ false → IsOk result }
+    ensures all { IfOk result (λ all. map meant all ≡ map meant items.items ++ left_open unfinished) }
 {
     if let Some(data) = unfinished {
         push(&mut items, Item::Broken(data))?;
