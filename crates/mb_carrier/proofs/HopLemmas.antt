@@ -1,10 +1,10 @@
 -- Putting marks in steps: what is handed on and what is held, from any bytes that were handed on before.
-use Rattle.std.proofs.Common.{◌≡◌, ℕ, Bool, true, List, [], ◌∷◌, ◌++◌, map, take, drop, refl, sym, ◌∙◌, ap, subst, append_assoc}
+use Rattle.std.proofs.Common.{◌≡◌, ℕ, true, List, [], ◌++◌, map, take, drop, sym, ◌∙◌, ap, subst, append_assoc}
 use Rattle.std.proofs.lemmas.List.{append-nil, map-append, take-append-drop}
 use Rattle.std.specs.Prelude.{Result, OnOk, OnErr}
 use Rattle.mb_message.specs.Signs.{Sign, ByteSign}
 use Rattle.mb_stream.specs.Standing.{suited}
-use Rattle.mb_outside.specs.Taking.{IsFront, TookFront}
+use Rattle.mb_outside.specs.Taking.{IsFront}
 use Rattle.mb_carrier.specs.Carrier.{live}
 use Rattle.mb_carrier.specs.Hop.{Puts, Gave, Halted}
 use Rattle.mb_carrier.specs.declared.spec.Spec.{Spec}

@@ -8,7 +8,7 @@ use Rattle.mb_carrier.specs.DinLaws as din
 use Rattle.mb_carrier.specs.UsbLaws as usb
 use Rattle.mb_carrier.specs.declared.spec.Spec.{Spec}
 use Rattle.mb_carrier.specs.declared.spec.Spec.TheVariants.{Din, Usb}
-use Rattle.mb_carrier.proofs.FeedLemmas.{Reads, suited-so_far, suited-front, known_signs-append}
+use Rattle.mb_carrier.proofs.FeedLemmas.{Reads, suited-so_far, known_signs-append}
 
 pub reads : (s : Spec) → Reads s
 reads Din = record { stays = din.known-stays; ends = din.marks-end; suits = din.marks-suit }

@@ -9,7 +9,7 @@
 --   whole s bytes          the recording doesn't stop inside a packet
 --   written s ms           what a list of marks is written as
 --   live s ms              the same without what the writer's finish adds
-use Rattle.std.specs.Prelude.{ℕ, Bool, true, List, ◌++◌, map, flat_map}
+use Rattle.std.specs.Prelude.{ℕ, Bool, true, List, map, flat_map}
 use Rattle.mb_message.specs.Signs.{Sign}
 use Rattle.mb_stream.specs.Payload.{Entry}
 use Rattle.mb_stream.specs.Groups.{last_of}

@@ -1,12 +1,11 @@
 -- From what a command did to what the caller sees.
-use Rattle.std.proofs.Common.{◌≡◌, Bool, IsTrue, ℕ, ◌+◌, ◌-◌, ◌<◌, ◌≤◌, ◌↔◌, true, false, List, [], ◌∷◌, ◌++◌, length, take, drop, refl, sym, ◌∙◌, ap, subst, inl, inr, arith, length-append}
+use Rattle.std.proofs.Common.{◌≡◌, Bool, IsTrue, ℕ, ◌+◌, ◌<◌, ◌≤◌, ◌↔◌, true, false, List, [], ◌∷◌, length, take, refl, sym, ◌∙◌, ap, subst, inl, inr, arith, length-append}
 use Rattle.std.specs.Prelude.{Result, Ok, Err, OnOk, OnErr}
 use Rattle.std.proofs.lemmas.List.{append-nil, take_at, drop_at}
 use Rattle.mb_outside.specs.Cause.{Rose}
-use Rattle.mb_outside.specs.Contents.{Contents, after_read, after_write}
+use Rattle.mb_outside.specs.Contents.{Contents, after_write}
 use Rattle.mb_outside.specs.Taking.{IsFront, Wrote}
 use Rattle.mb_carrier.specs.Carrier.{whole}
-use Rattle.mb_carrier.specs.Conversion.{through}
 use Rattle.mb_carrier.specs.Word.{word_of}
 use Rattle.mb_carrier.specs.declared.spec.Spec.{Spec}
 use Rattle.mb_carrier.proofs.WordLemmas.{word_of-same}

@@ -1,6 +1,6 @@
 -- A command on its way, over a desk that tells its contents.
-use Rattle.std.proofs.Common.{◌≡◌, Bool, IsTrue, ℕ, ◌+◌, ◌-◌, ◌<◌, ◌≤◌, true, false, not, List, [], ◌∷◌, ◌++◌, length, take, drop, refl, sym, ◌∙◌, ap, subst, append_assoc, arith, length-append, length-drop}
-use Rattle.std.proofs.lemmas.List.{append-nil, take-append-drop, take_at, drop_at, length-take-le, take-append-le}
+use Rattle.std.proofs.Common.{◌≡◌, Bool, IsTrue, ℕ, ◌+◌, ◌-◌, ◌<◌, ◌≤◌, true, false, not, List, ◌++◌, length, take, drop, refl, sym, ◌∙◌, ap, subst, append_assoc, arith, length-append}
+use Rattle.std.proofs.lemmas.List.{append-nil, take-append-drop, drop_at, length-take-le, take-append-le}
 use Rattle.mb_outside.specs.Contents.{Contents, Gives, after_read, after_write}
 use Rattle.mb_outside.specs.ContentsLaws.{after_read-none, after_read-twice, after_write-twice}
 use Rattle.mb_outside.specs.Taking.{IsFront, Wrote}

@@ -5,7 +5,7 @@
 --   at_end, read_all       the answers at the end of the input: all of it was read
 --   Ends ..                what an answer says of the bytes left at first, those read and those written
 --   Answered ..            all that a call did to the desk
-use Rattle.std.specs.Prelude.{◌≡◌, ℕ, ◌+◌, ◌-◌, ◌<◌, ◌≤◌, Bool, true, false, ◌==◌, List, [], ◌∷◌, ◌++◌, length, take, drop, ◌⊎◌, codes}
+use Rattle.std.specs.Prelude.{◌≡◌, ℕ, ◌+◌, ◌-◌, ◌<◌, ◌≤◌, Bool, true, false, ◌==◌, List, [], ◌∷◌, length, take, drop, ◌⊎◌, codes}
 use Rattle.std.specs.List.{list_any}
 use Rattle.mb_outside.specs.Cause.{Rose}
 use Rattle.mb_outside.specs.Contents.{Contents, after_read, after_write}

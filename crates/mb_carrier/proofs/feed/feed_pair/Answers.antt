@@ -1,7 +1,7 @@
-use Rattle.std.proofs.Common.{◌≡◌, ℕ, List, [], ◌++◌, refl, sym, ◌∙◌, ap, subst, length, arith}
+use Rattle.std.proofs.Common.{ℕ, List, refl, ◌∙◌, ap, subst, length, arith}
 use Rattle.std.proofs.lemmas.Result.{on_ok_weaker, on_err_weaker}
 use Rattle.mb_outside.specs.Taking.{TookFront}
-use Rattle.mb_carrier.proofs.FeedLemmas.{Reads, put-start, put-may_come, put-step, put-halted, put-fed, put-last_halted}
+use Rattle.mb_carrier.proofs.FeedLemmas.{put-start, put-may_come, put-step, put-halted, put-fed, put-last_halted}
 use Rattle.mb_carrier.proofs.feed.feed_pair.Goals as goal
 
 pub events-init : goal.events-init

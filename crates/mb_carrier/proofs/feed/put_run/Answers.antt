@@ -1,4 +1,4 @@
-use Rattle.std.proofs.Common.{◌≡◌, [], refl, ◌∙◌, arith}
+use Rattle.std.proofs.Common.{[], refl, ◌∙◌, arith}
 use Rattle.std.proofs.lemmas.Grind.{common_steps}
 use Rattle.mb_carrier.proofs.HopLemmas.{gave-none, run-step, run-halted, run-whole, cut_at}
 use Rattle.mb_carrier.proofs.feed.put_run.Goals as goal

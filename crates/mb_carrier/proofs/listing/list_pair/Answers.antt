@@ -1,4 +1,4 @@
-use Rattle.std.proofs.Common.{◌≡◌, ℕ, List, refl, ◌∙◌, ap, subst, arith, length}
+use Rattle.std.proofs.Common.{ℕ, List, refl, ◌∙◌, subst, arith}
 use Rattle.std.proofs.lemmas.Result.{on_ok_weaker, on_err_weaker}
 use Rattle.mb_carrier.proofs.ListLemmas.{Fronted, listing-start, listing-step, listing-halted, listing-fed, listing-last_halted, noted-more}
 use Rattle.mb_carrier.proofs.listing.list_pair.Goals as goal

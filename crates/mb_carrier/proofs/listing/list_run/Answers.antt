@@ -1,6 +1,6 @@
-use Rattle.std.proofs.Common.{◌≡◌, ◌<◌, List, [], refl, ◌∙◌, arith, length}
+use Rattle.std.proofs.Common.{◌<◌, refl, arith, length}
 use Rattle.std.proofs.lemmas.Grind.{common_steps}
-use Rattle.mb_carrier.proofs.ListLemmas.{run-step, run-halted, run-whole, first-of}
+use Rattle.mb_carrier.proofs.ListLemmas.{run-step, run-halted, first-of}
 use Rattle.mb_carrier.proofs.listing.list_run.Goals as goal
 
 pub returns-in-Err-clause-err : goal.returns-in-Err-clause-err

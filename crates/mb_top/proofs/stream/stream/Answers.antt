@@ -1,6 +1,5 @@
-use Rattle.std.proofs.Common.{◌≡◌, ℕ, ◌<◌, ◌+◌, length, refl, sym, ◌∙◌, ap, subst, arith, length-append}
+use Rattle.std.proofs.Common.{◌∙◌, arith}
 use Rattle.std.proofs.lemmas.Grind.{common_steps}
-use Rattle.mb_outside.specs.Contents.{Gives}
 use Rattle.mb_top.proofs.StreamLemmas.{read-piece, at-end, ran-ended, cut-at, ran-end_halted, ran-halted, fed-at, halted-at, ended-at, end_halted-at, piece-is, piece-size, so_far-fed}
 use Rattle.mb_top.proofs.stream.stream.Goals as goal
 
