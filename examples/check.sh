@@ -1,6 +1,7 @@
 #!/usr/bin/env bash
 # Holds the tables of this folder's README against the files and the built program: each file has the bytes that stand there, and
-# each becomes what stands there. Run it after `make`; another program is named by its first word.
+# each becomes what stands there; and each command that the README above shows prints what stands below it. Run it after `make`;
+# another program is named by its first word.
 program=$(realpath "${1:-$(dirname "$0")/../midibridge}")
 cd "$(dirname "$0")" || exit 1
 [ -x "$program" ] || { echo "no $program: run make first"; exit 1; }
@@ -25,6 +26,16 @@ while IFS='|' read -r _ file bytes _ becomes _; do
   [ "$found" = "$wanted" ] || { echo "$file: it becomes $found"; wrong=1; }
 done < <(grep '^| `.*\.\(din\|usb\)`' README.md)
 
-[ "$rows" -gt 0 ] || { echo "no rows"; exit 1; }
-[ "$wrong" = 0 ] && echo "$rows examples are as their table has them"
+# The commands that README.md shows, each with the lines below it.
+shown=0
+while IFS= read -r command; do
+  shown=$((shown + 1))
+  wanted=$(awk -v command="\$ $command" '$0 == command { on = 1; next } /^[$]|^```/ { on = 0 } on' ../README.md)
+  words=${command#./midibridge }
+  found=$(cd .. && "$program" ${words%% <*} <"${words##*< }")
+  [ "$found" = "$wanted" ] || { echo "README.md, $command: it prints $found"; wrong=1; }
+done < <(sed -n 's/^[$] \(\.\/midibridge .*\)/\1/p' ../README.md)
+
+[ "$rows" -gt 0 ] && [ "$shown" -gt 0 ] || { echo "no rows"; exit 1; }
+[ "$wrong" = 0 ] && echo "$rows examples and $shown commands are as they are shown"
 exit "$wrong"
