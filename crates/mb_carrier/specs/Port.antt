@@ -8,7 +8,7 @@ use Rattle.mb_din.specs.State as din_state
 use Rattle.mb_usb.specs.Cables.{CableStands}
 use Rattle.mb_usb.specs.State as usb_state
 use Rattle.mb_usb.specs.Under.{left_of}
-use Rattle.mb_carrier.specs.Line.{LineStands}
+use Rattle.mb_carrier.specs.Line.{LineStands, Rests}
 use Rattle.mb_carrier.specs.declared.spec.Spec.{Spec}
 use Rattle.mb_carrier.specs.declared.spec.Spec.TheVariants as spec
 use Rattle.mb_carrier.specs.declared.writer.WriterOf.{WriterOf}
@@ -53,6 +53,14 @@ ReaderStandsBy (reader.Usb r) bytes told = CableStands r bytes told
 
 abbrev pub ReaderStands : PortReader → List ℕ → List Known → Type 0
 ReaderStands r bytes told = ReaderStandsBy r.carrier bytes told
+
+-- nothing is begun, running or open on the port
+abbrev pub ReaderRestsBy : ReaderOf → Type 0
+ReaderRestsBy (reader.Din r) = Rests r
+ReaderRestsBy (reader.Usb r) = Rests r.reader
+
+abbrev pub ReaderRests : PortReader → Type 0
+ReaderRests r = ReaderRestsBy r.carrier
 
 -- how many bytes it took
 abbrev pub reader_offset_by : ReaderOf → ℕ

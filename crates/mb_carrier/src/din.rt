@@ -8,7 +8,7 @@ use mb_message::{Buf, Ev, Seen};
 
 impl EventReader for DinReader {
     ghost use Rattle.mb_din.specs.State as state;
-    ghost use Rattle.mb_carrier.specs.Line.{LineStands};
+    ghost use Rattle.mb_carrier.specs.Line.{LineStands, Rests};
     ghost use Rattle.mb_carrier.specs.declared.spec.Spec.TheVariants.{Din};
     ghost use Rattle.mb_carrier.specs.DinLaws.{known-stays, marks-end, marks-suit};
 
@@ -21,6 +21,8 @@ impl EventReader for DinReader {
     ghost beside = { λ r input. input };
 
     ghost stands = { λ r bytes told. LineStands r bytes told };
+
+    ghost rests = { λ r. Rests r };
 
     #[inline(always)]
     fn next<'a>(&mut self, input: &mut &'a [u8]) -> Option<Seen<'a>> {

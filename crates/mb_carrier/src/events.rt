@@ -35,6 +35,9 @@ pub trait EventReader {
     /// It took these bytes and told this of them.
     ghost stands: { Self → List ℕ → List Known → Type 0 };
 
+    /// Nothing is begun, running or open on its port.
+    ghost rests: { Self → Type 0 };
+
     /// The next mark or note of the bytes taken before and of the input, which it takes from the front of the input.
     fn next<'a>(&mut self, input: &mut &'a [u8]) -> Option<Seen<'a>>
         requires early { offset self.old + length input.old.now < 2 ^ 63 }
@@ -42,6 +45,7 @@ pub trait EventReader {
         ensures end { offset self.new + length input.new.now ≡ offset self.old + length input.old.now }
         ensures progress { OnSome result (2 * length input.new.now + owed self.new < 2 * length input.old.now + owed self.old) }
         ensures none { IfNone result (input.new.now ≡ []) }
+        ensures some { OnSome result (answer result ≡ [] → ⊥) }
         ensures longest { IfSome result (IsLongest (beside self.new input.new.now)) }
         ensures goes { (bytes : List ℕ) (told : List Known) → stands self.old bytes told → IsFront told (known (spec self.old) (bytes ++ input.old.now)) →
             ReaderGoes (known (spec self.old)) (stands self.new) input.old.now input.new.now (answer result) bytes told }
@@ -51,6 +55,7 @@ pub trait EventReader {
     /// What only the end makes known.
     fn finish(&mut self) -> Option<Seen<'static>>
         ensures spec { spec self.new ≡ spec self.old }
+        ensures rests { rests self.new }
         ensures told { (bytes : List ℕ) → stands self.old bytes (known (spec self.old) bytes) → answer result ≡ end_told (spec self.old) bytes };
 
     /// What is known of some bytes stays known.

@@ -7,7 +7,7 @@ ghost use Rattle.mb_din.specs.Turn.{answer};
 ghost use Rattle.mb_outside.specs.Taking.{IsFront};
 ghost use Rattle.mb_carrier.specs.Carrier.{known, end_told, whole};
 ghost use Rattle.mb_carrier.specs.Hop.{ReaderGoes};
-ghost use Rattle.mb_carrier.specs.Port.{reader_spec, reader_offset, reader_owed, beside, ReaderStands, reader_spec_by, reader_offset_by, reader_owed_by, beside_by, ReaderStandsBy};
+ghost use Rattle.mb_carrier.specs.Port.{reader_spec, reader_offset, reader_owed, beside, ReaderStands, ReaderRests, reader_spec_by, reader_offset_by, reader_owed_by, beside_by, ReaderStandsBy, ReaderRestsBy};
 ghost use Rattle.mb_carrier.specs.Step.{seen_in, seen_of, IsAt};
 ghost use Rattle.mb_carrier.specs.Word.{IsSpec};
 
@@ -72,6 +72,7 @@ impl PortReader {
         ensures none { IfNone result (input.new.now ≡ []) }
         ensures all_told { IfNone result ((bytes : List ℕ) (told : List Known) → ReaderStands self.old bytes told → IsFront told (known (reader_spec self.old) (bytes ++ input.old.now)) →
             told ≡ known (reader_spec self.old) (bytes ++ input.old.now)) }
+        ensures some { OnSome result (answer (seen_of result) ≡ [] → ⊥) }
         ensures longest { IfSome result (λ step. IsLongest (beside self.new input.new.now) (seen_in step)) }
 
         // A caller's loop ends by this.
@@ -83,11 +84,13 @@ impl PortReader {
         }
     }
 
-    /// What only the end of the recording makes known: a message that was begun and not finished, or an open SysEx.
+    /// What only the end of the recording makes known: a message that was begun and not finished, or an open SysEx. Then
+    /// nothing is begun, running or open on the port.
     pub fn finish(&mut self) -> Option<PortStep<'static>>
         ensures spec { reader_spec self.new ≡ reader_spec self.old }
         ensures moment { self.new.moment ≡ self.old.moment }
         ensures at { IfSome result (IsAt self.old.moment) }
+        ensures rests { ReaderRests self.new }
         ensures told { (bytes : List ℕ) → ReaderStands self.old bytes (known (reader_spec self.old) bytes) → answer (seen_of result) ≡ end_told (reader_spec self.old) bytes }
     {
         match last_seen(&mut self.carrier) {
@@ -117,6 +120,7 @@ fn next_seen<'a>(carrier: &mut ReaderOf, input: &mut &'a [u8]) -> Option<Seen<'a
     ensures none { IfNone result (input.new.now ≡ []) }
     ensures all_told { IfNone result ((bytes : List ℕ) (told : List Known) → ReaderStandsBy carrier.old bytes told → IsFront told (known (reader_spec_by carrier.old) (bytes ++ input.old.now)) →
         told ≡ known (reader_spec_by carrier.old) (bytes ++ input.old.now)) }
+    ensures some { OnSome result (answer result ≡ [] → ⊥) }
     ensures longest { IfSome result (IsLongest (beside_by carrier.new input.new.now)) }
     ensures progress { OnSome result (2 * length input.new.now + reader_owed_by carrier.new < 2 * length input.old.now + reader_owed_by carrier.old) }
 {
@@ -129,6 +133,7 @@ fn next_seen<'a>(carrier: &mut ReaderOf, input: &mut &'a [u8]) -> Option<Seen<'a
 /// What only the end makes known to a carrier's reader.
 fn last_seen(carrier: &mut ReaderOf) -> Option<Seen<'static>>
     ensures spec { reader_spec_by carrier.new ≡ reader_spec_by carrier.old }
+    ensures rests { ReaderRestsBy carrier.new }
     ensures told { (bytes : List ℕ) → ReaderStandsBy carrier.old bytes (known (reader_spec_by carrier.old) bytes) → answer result ≡ end_told (reader_spec_by carrier.old) bytes }
 {
     match carrier {

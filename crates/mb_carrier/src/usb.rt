@@ -10,6 +10,7 @@ impl EventReader for CableReader {
     ghost use Rattle.mb_usb.specs.State as state;
     ghost use Rattle.mb_usb.specs.Under.{left_of};
     ghost use Rattle.mb_usb.specs.Cables.{CableStands};
+    ghost use Rattle.mb_carrier.specs.Line.{Rests};
     ghost use Rattle.mb_carrier.specs.declared.spec.Spec.TheVariants.{Usb};
     ghost use Rattle.mb_carrier.specs.UsbLaws.{known-stays, marks-end, marks-suit};
 
@@ -22,6 +23,8 @@ impl EventReader for CableReader {
     ghost beside = { λ r input. take (left_of r.packet.under) input };
 
     ghost stands = { λ r bytes told. CableStands r bytes told };
+
+    ghost rests = { λ r. Rests r.reader };
 
     #[inline(always)]
     fn next<'a>(&mut self, input: &mut &'a [u8]) -> Option<Seen<'a>> {
