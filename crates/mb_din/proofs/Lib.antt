@@ -10,6 +10,7 @@ pub mod StatusStep
 pub mod StreamLaw
 pub mod StreamLemmas
 pub mod TurnLemmas
+pub mod WholeLemmas
 pub mod WriterLemmas
 mod WrittenExamples
 pub mod WrittenMarks

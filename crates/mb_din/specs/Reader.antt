@@ -8,7 +8,8 @@
 --   IsLongest left seen     a run is the longest that stands side by side in the input
 --   breaks told             a message that was begun, or a SysEx, is broken by the next status
 --   StatusNext left         and that status still stands in the input
-use Rattle.std.specs.Prelude.{◌≡◌, ℕ, ◌+◌, ◌<◌, ◌≤◌, Bool, true, false, List, [], ◌∷◌, ◌++◌, map, length}
+--   TakesWhole was now ..   a piece was taken whole, and one thing told of it
+use Rattle.std.specs.Prelude.{◌≡◌, ℕ, ◌+◌, ◌<◌, ◌≤◌, Bool, true, false, ◌&&◌, List, [], ◌∷◌, ◌++◌, map, length}
 use Rattle.mb_message.specs.Bytes.{is_data, is_channel}
 use Rattle.mb_message.specs.Signs.{AbortSign}
 use Rattle.mb_message.specs.declared.note.NoteKind.TheVariants.{Truncated}
@@ -19,6 +20,7 @@ use Rattle.mb_stream.specs.Payload.{Entry, Heard, Silent, heard_from}
 use Rattle.mb_stream.specs.Groups.{last_of}
 use Rattle.mb_stream.specs.Told.{Told, Marks, Notes, Known}
 use Rattle.mb_stream.specs.Reading.{so_far}
+use Rattle.mb_stream.specs.Working.{RisesFrom}
 use Rattle.mb_din.specs.State.{State, idle, state_of}
 
 -- offsets rise from the first number on, and all are below the second
@@ -87,3 +89,20 @@ breaks _ = false
 abbrev pub StatusNext : List ℕ → Type 0
 StatusNext [] = ⊥
 StatusNext (b ∷ bs) = is_data b ≡ false
+
+abbrev pub is_all_data : List ℕ → Bool
+is_all_data [] = true
+is_all_data (b ∷ bs) = is_data b && is_all_data bs
+
+abbrev pub put_to : (offset : ℕ) → State → State
+put_to offset s = record s { offset = offset }
+
+-- All of a piece that stands at an offset was taken. It is what a call tells that is given the piece as its input, whatever was taken
+-- and told before, and whatever follows the piece in the payload.
+pub record TakesWhole (was now : State) (at : ℕ) (piece : List ℕ) (answer : List Told) : Type 0 where
+  pub offset : now.offset ≡ at + length piece
+  pub stays : (entries : List Entry) → Stands was entries (so_far entries) → Stands (put_to at was) entries (so_far entries)
+  pub goes : (moment : ℕ) (entries : List Entry) (told : List Known) (more : List Entry) →
+      Stands (put_to at was) entries told → RisesFrom (at + length piece) more →
+      IsFront told (so_far (entries ++ (heard_from at moment piece ++ more))) →
+      Goes (put_to at was) now moment piece [] answer entries told (heard_from at moment piece ++ more)

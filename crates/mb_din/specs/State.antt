@@ -84,6 +84,15 @@ abbrev pub is_running_progress : Progress → Bool
 is_running_progress (Running s) = true
 is_running_progress _ = false
 
+-- no message is begun, and no SysEx is open
+abbrev pub is_free_progress : Progress → Bool
+is_free_progress Idle = true
+is_free_progress (Running s) = true
+is_free_progress _ = false
+
+abbrev pub free_now : State → Bool
+free_now s = is_free_progress s.progress
+
 -- a channel status runs, and no message of it is begun
 abbrev pub may_run_now : State → Bool
 may_run_now s = is_running_progress s.progress

@@ -4,7 +4,7 @@ ghost use Rattle.std.specs.Prelude.{◌≡◌, true, false, [], ◌∷◌, None,
 ghost use Rattle.mb_message.specs.Bytes.{is_data, is_realtime, is_short, data_length};
 ghost use Rattle.mb_message.specs.Signs.{ShortSign};
 ghost use Rattle.mb_stream.specs.Told.{Marks, Notes};
-ghost use Rattle.mb_din.specs.State.{is_sound, lacks_one, is_running_progress, is_open_progress};
+ghost use Rattle.mb_din.specs.State.{is_sound, lacks_one, is_running_progress, is_open_progress, is_free_progress};
 ghost use Rattle.mb_din.specs.Turn.{answer, told_by, is_one, whole, first_step, data_step, status_step, told_before, told_at_end, end_told, realtime_told, data_front, data_rest};
 
 use mb_message::{Ev, Note, NoteKind, Rt, Seen, Short};
@@ -34,7 +34,7 @@ fn note(kind: NoteKind, at: u64) -> Seen<'static>
 }
 
 #[inline(always)]
-fn short(status: u8, data1: u8, data2: u8) -> Seen<'static>
+pub(crate) fn short(status: u8, data1: u8, data2: u8) -> Seen<'static>
     requires { is_short status data1 data2 ≡ true }
     ensures { told_by result ≡ Marks (ShortSign status data1 data2) ∷ [] }
 {
@@ -153,6 +153,14 @@ pub(crate) fn is_running(progress: Progress) -> bool
     ensures { result ≡ is_running_progress progress }
 {
     matches!(progress, Progress::Running(_))
+}
+
+/// Whether no message is begun and no SysEx is open.
+#[inline(always)]
+pub(crate) fn is_free(progress: Progress) -> bool
+    ensures { result ≡ is_free_progress progress }
+{
+    matches!(progress, Progress::Idle | Progress::Running(_))
 }
 
 /// Whether a SysEx is open.

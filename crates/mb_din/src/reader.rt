@@ -1,19 +1,19 @@
 //! The reader of the byte line.
 
-ghost use Rattle.std.specs.Prelude.{◌≡◌, ◌+◌, ◌*◌, ◌<◌, ◌≤◌, ◌^◌, true, [], ◌∷◌, ◌++◌, ℕ, List, length, OnSome, IfSome, IfNone};
-ghost use Rattle.mb_message.specs.Bytes.{is_channel};
+ghost use Rattle.std.specs.Prelude.{◌≡◌, ◌↔◌, ◌+◌, ◌*◌, ◌<◌, ◌≤◌, ◌^◌, ◌&&◌, true, Some, [], ◌∷◌, ◌++◌, ℕ, List, length, OnSome, IsSome, IfSome, IfNone};
+ghost use Rattle.mb_message.specs.Bytes.{is_channel, is_data, is_realtime, data_length};
 ghost use Rattle.mb_stream.specs.Payload.{Entry, Silent, heard_from};
 ghost use Rattle.mb_stream.specs.Groups.{last_of, is_sysex};
 ghost use Rattle.mb_stream.specs.Told.{Known, at_end, may_run};
 ghost use Rattle.mb_stream.specs.Reading.{so_far};
 ghost use Rattle.mb_stream.specs.Working.{RisesFrom};
-ghost use Rattle.mb_din.specs.State.{owed, open_now, may_run_now, fresh, is_sound};
+ghost use Rattle.mb_din.specs.State.{owed, open_now, free_now, may_run_now, fresh, is_sound};
 ghost use Rattle.mb_din.specs.Turn.{answer, told_by, one, run, turn};
-ghost use Rattle.mb_din.specs.Reader.{Stands, Goes, IsFront, IsFrontTaken, IsLongest, breaks, StatusNext};
+ghost use Rattle.mb_din.specs.Reader.{Stands, Goes, IsFront, IsFrontTaken, IsLongest, TakesWhole, breaks, StatusNext, is_all_data};
 
 use crate::progress::{
-    Progress, at_end, before_status, is_open, is_running, realtime, take_data, take_run,
-    take_status,
+    Progress, at_end, before_status, is_free, is_open, is_running, realtime, short, take_data,
+    take_run, take_status,
 };
 use mb_message::{Ev, Seen};
 use std::marker::Model;
@@ -86,6 +86,86 @@ impl DinReader {
         ensures progress { OnSome result (2 * length input.new.now + owed self.new < 2 * length input.old.now + owed self.old) }
     {
         self.advance(input)
+    }
+
+    /// The message of a channel status and its one data byte, of which the status has this offset: what `next` tells of
+    /// both. `None`, and nothing is taken, where a message is begun or a SysEx open, or the second is no data byte.
+    #[inline(always)]
+    pub fn read_two(&mut self, at: u64, status: u8, data1: u8) -> Option<Seen<'static>>
+        requires place { self.old.offset ≤ at }
+        requires early { at + 2 < 2 ^ 63 }
+        requires status { is_channel status ≡ true }
+        requires counts { data_length status ≡ Some 1 }
+        ensures whole { OnSome result (TakesWhole self.old self.new at (status ∷ data1 ∷ []) (answer result)) }
+        ensures when { IsSome result ↔ ((free_now self.old && is_data data1) ≡ true) }
+        ensures some { OnSome result (answer result ≡ [] → ⊥) }
+        ensures unless { IfNone result (self.new ≡ self.old) }
+    {
+        if !is_free(self.progress) || data1 >= 0x80 {
+            return None;
+        }
+        self.offset = at + 2;
+        self.progress = Progress::Running(status);
+        Some(short(status, data1, 0))
+    }
+
+    /// The message of a channel status and its two data bytes, of which the status has this offset: what `next` tells of
+    /// them. `None`, and nothing is taken, where a message is begun or a SysEx open, or one of the two is no data byte.
+    #[inline(always)]
+    pub fn read_three(&mut self, at: u64, status: u8, data1: u8, data2: u8) -> Option<Seen<'static>>
+        requires place { self.old.offset ≤ at }
+        requires early { at + 3 < 2 ^ 63 }
+        requires status { is_channel status ≡ true }
+        requires counts { data_length status ≡ Some 2 }
+        ensures whole { OnSome result (TakesWhole self.old self.new at (status ∷ data1 ∷ data2 ∷ []) (answer result)) }
+        ensures when { IsSome result ↔ ((free_now self.old && is_data data1 && is_data data2) ≡ true) }
+        ensures some { OnSome result (answer result ≡ [] → ⊥) }
+        ensures unless { IfNone result (self.new ≡ self.old) }
+    {
+        if !is_free(self.progress) || data1 >= 0x80 || data2 >= 0x80 {
+            return None;
+        }
+        self.offset = at + 3;
+        self.progress = Progress::Running(status);
+        Some(short(status, data1, data2))
+    }
+
+    /// A real-time byte of this offset: what `next` tells of it.
+    #[inline(always)]
+    pub fn read_realtime(&mut self, at: u64, byte: u8) -> Seen<'static>
+        requires place { self.old.offset ≤ at }
+        requires early { at + 1 < 2 ^ 63 }
+        requires realtime { is_realtime byte ≡ true }
+        ensures whole { TakesWhole self.old self.new at (byte ∷ []) (answer (Some result)) }
+        ensures some { answer (Some result) ≡ [] → ⊥ }
+    {
+        self.offset = at + 1;
+        realtime(at, byte)
+    }
+
+    /// Three bytes, of which the first has this offset, as a run of an open SysEx: what `next` tells of them. `None`, and
+    /// nothing is taken, where none is open, or one of the three is no data byte.
+    #[inline(always)]
+    pub fn read_run<'a>(&mut self, at: u64, bytes: &'a [u8]) -> Option<Seen<'a>>
+        requires place { self.old.offset ≤ at }
+        requires early { at + 3 < 2 ^ 63 }
+        requires three { length bytes.now ≡ 3 }
+        ensures whole { OnSome result (TakesWhole self.old self.new at bytes.now (answer result)) }
+        ensures when { IsSome result ↔ ((open_now self.old && is_all_data bytes.now) ≡ true) }
+        ensures some { OnSome result (answer result ≡ [] → ⊥) }
+        ensures unless { IfNone result (self.new ≡ self.old) }
+    {
+        if !is_open(self.progress) {
+            return None;
+        }
+        let [first, second, third] = bytes else {
+            return None;
+        };
+        if *first >= 0x80 || *second >= 0x80 || *third >= 0x80 {
+            return None;
+        }
+        self.offset = at + 3;
+        Some(Seen::Ev(Ev::Run(bytes)))
     }
 
     /// What only the end of the line makes known: a message that was begun and not finished, or an open SysEx. The

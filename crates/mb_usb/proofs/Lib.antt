@@ -20,5 +20,6 @@ pub mod RunningLemmas
 pub mod Steps
 pub mod UsbLaw
 pub mod UsbReaderLaw
+pub mod WholePackets
 pub mod WriterLemmas
 pub mod WrittenCuts

@@ -16,7 +16,7 @@ use Rattle.mb_usb.specs.Under.{left_of, under_after, packet_after, packet_behind
 use Rattle.mb_usb.specs.Hands.{Hands}
 use Rattle.mb_usb.proofs.HandsLemmas.{take-all, drop-all}
 
-used-three : (n : ℕ) → used n ≤ 3
+pub used-three : (n : ℕ) → used n ≤ 3
 used-three n = by_tests (nat_le n 1) ((n == 5) || (n == 15)) ((n == 2) || (n == 6) || (n == 12) || (n == 13)) where
   by_tests : (a b c : Bool) → (if a then 0 else (if b then 1 else (if c then 2 else 3))) ≤ 3
   by_tests true b c = omega arith

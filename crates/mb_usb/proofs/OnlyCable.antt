@@ -32,10 +32,10 @@ use Rattle.mb_usb.proofs.ReadLemmas.{rested-after, hands-rested, owed-reader, ow
 use Rattle.mb_usb.proofs.EachCable.{carried-by}
 use Rattle.mb_usb.proofs.UsbReaderLaw.{taken-from}
 
-abbrev OnlyHolds : ℕ → Packet → State → List ℕ → List Ported → Type 0
+abbrev pub OnlyHolds : ℕ → Packet → State → List ℕ → List Ported → Type 0
 OnlyHolds c p r bytes told = Holds (usb (only_cable c)) 1 (whole_of p (λ _. r)) bytes told
 
-abbrev only_known : ℕ → List ℕ → List Ported
+abbrev pub only_known : ℕ → List ℕ → List Ported
 only_known c bytes = all_known (usb (only_cable c)) 1 bytes
 
 -- what the loop did so far
@@ -48,7 +48,7 @@ begins c p r input = record { tells = tells-refl (only_known c) (OnlyHolds c p r
 undue : (c : ℕ) (p q : Packet) (r : State) → p.due ≡ None → q ≡ record p { due = None } → OnlyHolds c p r ≡ OnlyHolds c q r
 undue c p q r e same = ap (λ (z : Packet). OnlyHolds c z r) (same-undue p q e same)
 
-join : (c : ℕ) (a p q : Packet) (x r s : State) (start input left : List ℕ) (seen : List (Option ℕ × Told)) → OnlyTells c a x p r start input [] →
+pub join : (c : ℕ) (a p q : Packet) (x r s : State) (start input left : List ℕ) (seen : List (Option ℕ × Told)) → OnlyTells c a x p r start input [] →
     Tells (only_known c) (OnlyHolds c p r) (OnlyHolds c q s) input left seen → OnlyTells c a x q s start left seen
 join c a p q x r s start input left seen before step = record {
   tells = tells-trans (only_known c) (OnlyHolds c a x) (OnlyHolds c p r) (OnlyHolds c q s) start input left [] seen before.tells step;
@@ -61,6 +61,19 @@ then-due c a p q x r start input n before due same =
 
 pub then-none : (c : ℕ) (a p q : Packet) (x r : State) (start input : List ℕ) → OnlyTells c a x p r start input [] → p.due ≡ None → q ≡ record p { due = None } → OnlyTells c a x q r start input []
 then-none c a p q x r start input before due same = subst (λ (z : Packet). OnlyTells c a x z r start input []) (same-undue p q due same) before
+
+-- Nothing was taken: what the loop did so far stands, said of what is kept then.
+
+pub kept-tells : (c : ℕ) (a p : Packet) (x r s : State) (start input left : List ℕ) → OnlyTells c a x p r start input [] → s ≡ r → left ≡ input → OnlyTells c a x p s start left []
+kept-tells c a p x r s start input left before e f =
+    subst (λ (z : State). OnlyTells c a x p z start left []) (sym e) (subst (λ (z : List ℕ). OnlyTells c a x p r start z []) (sym f) before)
+
+pub kept-behind : (p : Packet) (r s : State) → IsBehind p r → s ≡ r → IsBehind p s
+kept-behind p r s h e = subst (λ (z : State). IsBehind p z) (sym e) h
+
+pub kept-owes : (c : ℕ) (p : Packet) (r s : State) (input left : List ℕ) (most : ℕ) → 2 * length input + owed_alone c p r ≤ most → s ≡ r → left ≡ input → 2 * length left + owed_alone c p s ≤ most
+kept-owes c p r s input left most h e f =
+    subst (λ (z : State). 2 * length left + owed_alone c p z ≤ most) (sym e) (subst (λ (z : List ℕ). 2 * length z + owed_alone c p r ≤ most) (sym f) h)
 
 abbrev only_if : Bool → Option ℕ
 only_if t = if t then Some 0 else None
@@ -88,7 +101,7 @@ then-pass c a p q t x r start input rest b before due same over after first =
     join c a q t x r r start input rest [] (then-none c a p q x r start input before due same)
     (step-pass (only_cable c) 1 (only_low c) q t (λ _. r) b input rest (ap (λ (z : Packet). z.due) same) (passed c q over) after first)
 
-only-is : (c h : ℕ) → h ≡ c → only_cable c h ≡ Some 0
+pub only-is : (c h : ℕ) → h ≡ c → only_cable c h ≡ Some 0
 only-is c h e = ap (λ (t : Bool). if t then Some 0 else None) (eq-eqb h c e)
 
 pub then-carry : (c : ℕ) (a p q t : Packet) (x r s : State) (start input rest left : List ℕ) (b : ℕ) (seen : Option Seen) → OnlyTells c a x p r start input [] → p.due ≡ None → q ≡ record p { due = None } →

@@ -6,5 +6,6 @@ pub mod Reading
 pub mod Running
 pub mod State
 pub mod Under
+pub mod Whole
 pub mod Writer
 pub mod Written

@@ -14,6 +14,7 @@ ghost use Rattle.mb_usb.specs.State.{owed_alone, owed_one, IsBehind};
 
 use crate::carry::carry;
 use crate::under::{Packet, is_of, taken};
+use crate::whole::take_packet;
 use mb_din::DinReader;
 use mb_message::Seen;
 use std::marker::Model;
@@ -116,6 +117,9 @@ fn read_cable<'a>(
     'bytes: loop {
         if let Some(note) = packet.take_due() {
             return Some(Seen::Note(note));
+        }
+        if let Some(seen) = take_packet(own, packet, din, input) {
+            return Some(seen);
         }
         let Some((byte, rest)) = input.split_first() else {
             return None;

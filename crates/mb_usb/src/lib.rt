@@ -15,6 +15,7 @@ pub mod laws;
 mod packet;
 mod reader;
 mod under;
+mod whole;
 mod writer;
 
 pub use cable::CableReader;

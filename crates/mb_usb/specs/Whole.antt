@@ -1,0 +1,27 @@
+-- Packets that stand whole in the input (USB Device Class Definition for MIDI Devices 1.0, section 4), taken in one go.
+--
+--   WholeBytes number bytes ..     the bytes that a packet uses were taken whole by its cable's reader
+--   WholePacket cable ..           a packet of the cable was taken
+use Rattle.std.specs.Prelude.{◌≡◌, ℕ, ◌+◌, ◌/◌, ◌%◌, ◌≢◌, true, None, List, ◌∷◌, ◌++◌, length, take}
+use Rattle.mb_stream.specs.Told.{Told}
+use Rattle.mb_din.specs.Reader.{TakesWhole}
+use Rattle.mb_din.specs.State.{State}
+use Rattle.mb_usb.specs.declared.under.Under.TheVariants.{Between}
+use Rattle.mb_usb.specs.declared.under.Packet.{Packet}
+use Rattle.mb_usb.specs.Reading.{used, suits_rest}
+
+-- the three bytes suit the code index number, so that nothing is remarked of the packet
+pub record WholeBytes (number : ℕ) (bytes : List ℕ) (at : ℕ) (reader reader_now : State) (answer : List Told) : Type 0 where
+  pub some : used number ≢ 0
+  pub suits : suits_rest number bytes ≡ true
+  pub takes : TakesWhole reader reader_now at (take (used number) bytes) answer
+
+pub record WholePacket (cable : ℕ) (was now : Packet) (reader reader_now : State) (input left : List ℕ) (answer : List Told) : Type 0 where
+  pub head : ℕ
+  pub bytes : List ℕ
+  pub front : input ≡ head ∷ (bytes ++ left)
+  pub three : length bytes ≡ 3
+  pub of : head / 16 ≡ cable
+  pub between : was.under ≡ Between
+  pub behind : now ≡ record { offset = was.offset + 4; under = Between; due = None }
+  pub carries : WholeBytes (head % 16) bytes (was.offset + 1) reader reader_now answer

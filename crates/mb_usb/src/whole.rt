@@ -1,0 +1,77 @@
+//! Packets that stand whole in the input, taken in one go: nearly all do, and byte by byte each costs more than twice the time.
+
+ghost use Rattle.std.specs.Prelude.{◌≡◌, ◌+◌, ◌<◌, ◌≤◌, ◌^◌, None, [], ℕ, length, OnSome, IfNone};
+ghost use Rattle.mb_din.specs.Turn.{answer};
+ghost use Rattle.mb_usb.specs.Whole.{WholeBytes, WholePacket};
+
+use crate::under::{Packet, Under};
+use mb_din::DinReader;
+use mb_message::Seen;
+
+/// Takes a packet of the cable that stands whole at the front of the input, and holds a channel message, a real-time
+/// message or three data bytes of an open SysEx: what its bytes tell. `None`, and nothing is taken, where a packet is under
+/// way or anything else stands there: such bytes are taken one after the other.
+#[inline(always)]
+pub fn take_packet<'a>(
+    own: u8,
+    packet: &mut Packet,
+    din: &mut DinReader,
+    input: &mut &'a [u8],
+) -> Option<Seen<'a>>
+    requires rested { packet.old.due ≡ None }
+    requires early { packet.old.offset + length input.old.now < 2 ^ 63 }
+    requires behind { din.old.offset ≤ packet.old.offset }
+    ensures whole { OnSome result (WholePacket own packet.old packet.new din.old din.new input.old.now input.new.now (answer result)) }
+    ensures some { OnSome result (answer result ≡ [] → ⊥) }
+    ensures packet { IfNone result (packet.new ≡ packet.old) }
+    ensures reader { IfNone result (din.new ≡ din.old) }
+    ensures input { IfNone result (input.new.now ≡ input.old.now) }
+{
+    let Under::Between = packet.under else {
+        return None;
+    };
+    let (head, after) = input.split_first()?;
+    if *head / 16 != own || after.len() < 3 {
+        return None;
+    }
+    let (bytes, rest) = after.split_at(3);
+    let seen = take_bytes(*head % 16, packet.offset + 1, bytes, din)?;
+    packet.offset += 4;
+    *input = rest;
+    Some(seen)
+}
+
+/// Hands those of a packet's three bytes that its code index number uses to the cable's reader, the first of them at this
+/// offset.
+#[inline(always)]
+fn take_bytes<'a>(number: u8, at: u64, bytes: &'a [u8], din: &mut DinReader) -> Option<Seen<'a>>
+    requires three { length bytes.now ≡ 3 }
+    requires place { din.old.offset ≤ at }
+    requires early { at + 3 < 2 ^ 63 }
+    ensures whole { OnSome result (WholeBytes number bytes.now at din.old din.new (answer result)) }
+    ensures some { OnSome result (answer result ≡ [] → ⊥) }
+    ensures reader { IfNone result (din.new ≡ din.old) }
+{
+    let [first, second, third] = bytes else {
+        return None;
+    };
+    if number == 15 {
+        if *first < 0xf8 {
+            return None;
+        }
+        return Some(din.read_realtime(at, *first));
+    }
+    if number >= 8 {
+        if number != *first / 16 {
+            return None;
+        }
+        if number == 12 || number == 13 {
+            return din.read_two(at, *first, *second);
+        }
+        return din.read_three(at, *first, *second, *third);
+    }
+    if number == 4 {
+        return din.read_run(at, bytes);
+    }
+    None
+}
