@@ -1,11 +1,11 @@
 //! What the line so far has begun, and what one more byte makes of it.
 
-ghost use Rattle.std.specs.Prelude.{◌≡◌, true, false, [], ◌∷◌, None, position, nat_le, OnSome};
-ghost use Rattle.mb_message.specs.Bytes.{is_data, is_realtime, is_short, data_length};
+ghost use Rattle.std.specs.Prelude.{◌≡◌, ◌≤◌, true, false, [], ◌∷◌, None, length, position, nat_le, OnSome, IfSome};
+ghost use Rattle.mb_message.specs.Bytes.{is_data, is_channel, is_realtime, is_short, data_length};
 ghost use Rattle.mb_message.specs.Signs.{ShortSign};
 ghost use Rattle.mb_stream.specs.Told.{Marks, Notes};
 ghost use Rattle.mb_din.specs.State.{is_sound, lacks_one, is_running_progress, is_open_progress, is_free_progress};
-ghost use Rattle.mb_din.specs.Turn.{answer, told_by, is_one, whole, first_step, data_step, status_step, told_before, told_at_end, end_told, realtime_told, data_front, data_rest};
+ghost use Rattle.mb_din.specs.Turn.{answer, told_by, is_one, IsMessage, whole, first_step, data_step, status_step, told_before, told_at_end, end_told, realtime_told, data_front, data_rest};
 
 use mb_message::{Ev, Note, NoteKind, Rt, Seen, Short};
 
@@ -47,6 +47,32 @@ fn has_one(status: u8) -> bool
     ensures { result ≡ is_one (data_length status) }
 {
     (status >= 0xc0 && status < 0xe0) || status == 0xf1 || status == 0xf3
+}
+
+/// The message of a channel status whose data bytes are the first of these, and those behind them. `None` where they don't
+/// all stand there.
+#[inline(always)]
+pub(crate) fn message<'a>(status: u8, bytes: &'a [u8]) -> Option<(Seen<'static>, &'a [u8])>
+    requires { is_channel status ≡ true }
+    ensures whole { IfSome result (λ r. IsMessage (is_one (data_length status)) status bytes.now (told_by r.0) r.1.now) }
+    ensures fewer { IfSome result (λ r. length r.1.now ≤ length bytes.now) }
+{
+    if status >= 0xc0 && status < 0xe0 {
+        let [first, left @ ..] = bytes else {
+            return None;
+        };
+        if *first >= 0x80 {
+            return None;
+        }
+        return Some((short(status, *first, 0), left));
+    }
+    let [first, second, left @ ..] = bytes else {
+        return None;
+    };
+    if *first >= 0x80 || *second >= 0x80 {
+        return None;
+    }
+    Some((short(status, *first, *second), left))
 }
 
 /// A message that is whole: behind it only a channel status runs on. Each branch makes the message, so that a compiler

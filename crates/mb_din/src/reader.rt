@@ -12,8 +12,8 @@ ghost use Rattle.mb_din.specs.Turn.{answer, told_by, one, run, turn};
 ghost use Rattle.mb_din.specs.Reader.{Stands, Goes, IsFront, IsFrontTaken, IsLongest, TakesWhole, breaks, StatusNext, is_all_data};
 
 use crate::progress::{
-    Progress, at_end, before_status, is_free, is_open, is_running, realtime, short, take_data,
-    take_run, take_status,
+    Progress, at_end, before_status, is_free, is_open, is_running, message, realtime, short,
+    take_data, take_run, take_status,
 };
 use mb_message::{Ev, Seen};
 use std::marker::Model;
@@ -218,12 +218,47 @@ impl DinReader {
         ensures behind { self.new ≡ (turn self.old input.old.now).behind }
         ensures some { OnSome result (answer result ≡ [] → ⊥) }
     {
+        if let Some(seen) = self.take_message(input) {
+            return Some(seen);
+        }
         while let Some((byte, rest)) = input.split_first() {
             if let Some(seen) = self.take(*byte, rest, input) {
                 return Some(seen);
             }
         }
         None
+    }
+
+    /// A channel message that stands whole at the front of the input, of a status there or of the one that runs, taken in
+    /// one go: nearly all do. `None`, and nothing is taken, where anything else stands there.
+    #[inline(always)]
+    fn take_message<'a>(&mut self, input: &mut &'a [u8]) -> Option<Seen<'a>>
+        requires early { self.old.offset + length input.old.now < 2 ^ 63 }
+        ensures told { OnSome result (answer result ≡ (turn self.old input.old.now).told) }
+        ensures left { OnSome result (input.new.now ≡ (turn self.old input.old.now).left) }
+        ensures behind { OnSome result (self.new ≡ (turn self.old input.old.now).behind) }
+        ensures some { OnSome result (answer result ≡ [] → ⊥) }
+        ensures same { IfNone result (self.new ≡ self.old) }
+        ensures kept { IfNone result (input.new.now ≡ input.old.now) }
+    {
+        let (byte, rest) = input.split_first()?;
+        if *byte < 0x80 {
+            let Progress::Running(status) = self.progress else {
+                return None;
+            };
+            let (seen, left) = message(status, *input)?;
+            self.offset += (input.len() - left.len()) as u64;
+            *input = left;
+            return Some(seen);
+        }
+        if *byte >= 0xf0 || !is_free(self.progress) {
+            return None;
+        }
+        let (seen, left) = message(*byte, rest)?;
+        self.offset += (input.len() - left.len()) as u64;
+        self.progress = Progress::Running(*byte);
+        *input = left;
+        Some(seen)
     }
 
     /// What the first byte of the input tells, if it tells anything.
