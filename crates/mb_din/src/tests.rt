@@ -109,3 +109,33 @@ fn each_status_and_a_broken_sysex_are_written(rt: HostRuntime) -> Result<(), Fai
     );
     Ok(())
 }
+
+#[test]
+fn what_stands_whole_is_read_in_one_go(rt: HostRuntime) -> Result<(), Fail> {
+    let program = Short::new(0xc1, 5, 0).ok_or("a program change")?;
+    let on = Short::new(0x90, 0x3c, 0x64).ok_or("a note")?;
+    let clock = Rt::new(0xf8).ok_or("a clock")?;
+    let mut reader = DinReader::new();
+    assert_eq!(rt;
+        reader.read_two(1, 0xc1, 5),
+        Some(Seen::Ev(Ev::Short(program)))
+    );
+    assert_eq!(rt; reader.read_two(5, 0xc1, 0x80), None);
+    assert_eq!(rt;
+        reader.read_three(5, 0x90, 0x3c, 0x64),
+        Some(Seen::Ev(Ev::Short(on)))
+    );
+    assert!(rt; reader.may_run());
+    assert_eq!(rt; reader.read_realtime(9, 0xf8), Seen::Ev(Ev::Rt(clock)));
+    assert_eq!(rt; reader.read_run(13, &[1, 2, 3]), None);
+    reader.place(13);
+    let mut open: &[u8] = &[0xf0];
+    assert_eq!(rt; reader.next(&mut open), Some(Seen::Ev(Ev::Open)));
+    assert_eq!(rt;
+        reader.read_run(17, &[1, 2, 3]),
+        Some(Seen::Ev(Ev::Run(&[1, 2, 3])))
+    );
+    assert_eq!(rt; reader.read_three(21, 0x90, 0x3c, 0x64), None);
+    assert!(rt; reader.in_sysex());
+    Ok(())
+}
