@@ -44,6 +44,7 @@ pub trait EventReader {
         ensures spec { spec self.new ≡ spec self.old }
         ensures end { offset self.new + length input.new.now ≡ offset self.old + length input.old.now }
         ensures progress { OnSome result (2 * length input.new.now + owed self.new < 2 * length input.old.now + owed self.old) }
+        ensures some { OnSome result (answer result ≡ [] → ⊥) }
         ensures none { IfNone result (input.new.now ≡ []) }
         ensures some { OnSome result (answer result ≡ [] → ⊥) }
         ensures longest { IfSome result (IsLongest (beside self.new input.new.now)) }
@@ -89,9 +90,11 @@ pub trait EventWriter {
         ensures puts { (marks : List Sign) (base : List ℕ) → stands self.old marks → live (spec self.old) marks ≡ base ++ out.old.items →
             Puts (live (spec self.old)) (stands self.old) (stands self.new) (signs_of_event ev.entry) out.old.items out.new.items marks base };
 
-    /// Appends what the end of the list of marks adds.
+    /// Appends what the end of the list of marks adds. Afterwards the writer is as new.
     fn finish(&mut self, out: &mut Buf)
         requires room { array_vec_len out.old + ROOM ≤ 1024 }
+        ensures spec { spec self.new ≡ spec self.old }
+        ensures stands { (marks : List Sign) → stands self.old marks → stands self.new [] }
         ensures ends { (marks : List Sign) (base : List ℕ) → stands self.old marks → live (spec self.old) marks ≡ base ++ out.old.items →
             written (spec self.old) marks ≡ base ++ out.new.items };
 

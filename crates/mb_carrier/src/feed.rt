@@ -53,6 +53,8 @@ pub fn finish_pair<R: EventReader, W: EventWriter, K: Out>(
 ) -> Result<(), Refused>
     requires ready { K.ready out.old }
     requires stands { (bytes : List ℕ) × HopStands (R.spec reader.old) (R.stands reader.old) (W.stands writer.old) bytes }
+    ensures reads { R.spec reader.new ≡ R.spec reader.old }
+    ensures writes { W.spec writer.new ≡ W.spec writer.old }
     ensures ready { K.ready out.new }
     ensures cause { HasCause (K.refusals out.old) (K.refusals out.new) result }
     ensures ended { OnOk result (Ended (R.spec reader.old) (W.spec writer.old) (R.stands reader.old) (W.stands writer.old)

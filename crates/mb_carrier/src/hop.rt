@@ -48,6 +48,8 @@ pub fn finish_hop<K: Out>(
 ) -> Result<(), Refused>
     requires ready { K.ready out.old }
     requires stands { (bytes : List ℕ) × HopStands (reader_spec reader.old) (ReaderStands reader.old) (WriterStands writer.old) bytes }
+    ensures reads { reader_spec reader.new ≡ reader_spec reader.old }
+    ensures writes { writer_spec writer.new ≡ writer_spec writer.old }
     ensures ready { K.ready out.new }
     ensures cause { HasCause (K.refusals out.old) (K.refusals out.new) result }
     ensures ended { OnOk result (Ended (reader_spec reader.old) (writer_spec writer.old) (ReaderStands reader.old) (WriterStands writer.old)
@@ -97,6 +99,7 @@ pub fn list_end<K: Out>(
 ) -> Result<(), Refused>
     requires ready { K.ready out.old }
     requires stands { (bytes : List ℕ) × ListStands (reader_spec reader.old) (ReaderStands reader.old) noted.old bytes }
+    ensures reads { reader_spec reader.new ≡ reader_spec reader.old }
     ensures ready { K.ready out.new }
     ensures cause { HasCause (K.refusals out.old) (K.refusals out.new) result }
     ensures ended { OnOk result (ListEnded (reader_spec reader.old) traced (ReaderStands reader.old) noted.old noted.new (λ given. K.took out.old given out.new)) }

@@ -54,6 +54,7 @@ pub(crate) fn list_last<R: EventReader, K: Out>(
 ) -> Result<(), Refused>
     requires ready { K.ready out.old }
     requires stands { (bytes : List ℕ) × ListStands (R.spec reader.old) (R.stands reader.old) noted.old bytes }
+    ensures reads { R.spec reader.new ≡ R.spec reader.old }
     ensures ready { K.ready out.new }
     ensures cause { HasCause (K.refusals out.old) (K.refusals out.new) result }
     ensures ended { OnOk result (ListEnded (R.spec reader.old) traced (R.stands reader.old) noted.old noted.new (λ given. K.took out.old given out.new)) }

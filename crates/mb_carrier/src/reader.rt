@@ -69,6 +69,7 @@ impl PortReader {
         // What it takes and tells, whatever was taken and told before.
         ensures goes { (bytes : List ℕ) (told : List Known) → ReaderStands self.old bytes told → IsFront told (known (reader_spec self.old) (bytes ++ input.old.now)) →
             ReaderGoes (known (reader_spec self.old)) (ReaderStands self.new) input.old.now input.new.now (answer (seen_of result)) bytes told }
+        ensures some { OnSome result (answer (seen_of result) ≡ [] → ⊥) }
         ensures none { IfNone result (input.new.now ≡ []) }
         ensures all_told { IfNone result ((bytes : List ℕ) (told : List Known) → ReaderStands self.old bytes told → IsFront told (known (reader_spec self.old) (bytes ++ input.old.now)) →
             told ≡ known (reader_spec self.old) (bytes ++ input.old.now)) }
@@ -117,6 +118,7 @@ fn next_seen<'a>(carrier: &mut ReaderOf, input: &mut &'a [u8]) -> Option<Seen<'a
     ensures end { reader_offset_by carrier.new + length input.new.now ≡ reader_offset_by carrier.old + length input.old.now }
     ensures goes { (bytes : List ℕ) (told : List Known) → ReaderStandsBy carrier.old bytes told → IsFront told (known (reader_spec_by carrier.old) (bytes ++ input.old.now)) →
         ReaderGoes (known (reader_spec_by carrier.old)) (ReaderStandsBy carrier.new) input.old.now input.new.now (answer result) bytes told }
+    ensures some { OnSome result (answer result ≡ [] → ⊥) }
     ensures none { IfNone result (input.new.now ≡ []) }
     ensures all_told { IfNone result ((bytes : List ℕ) (told : List Known) → ReaderStandsBy carrier.old bytes told → IsFront told (known (reader_spec_by carrier.old) (bytes ++ input.old.now)) →
         told ≡ known (reader_spec_by carrier.old) (bytes ++ input.old.now)) }

@@ -62,6 +62,7 @@ pub fn bridge<D: Desk>(alloc: Global, words: &Args, desk: &mut D) -> u8
     ensures answers { is_answer result ≡ true }
     ensures usage { (result ≡ 2) ↔ ((c : words_mean.Command) → Means words.now c → ⊥) }
     ensures read_fault { result ≡ 3 → Rose (D.read_faults desk.old) (D.read_faults desk.new) }
+    ensures read_fault_told { (result ≡ 3 → ⊥) → D.read_faults desk.new ≡ D.read_faults desk.old }
     ensures write_fault { result ≡ 4 → Rose (D.write_faults desk.old) (D.write_faults desk.new) }
 
     // It answers 0 for every whole input that is converted.
@@ -80,7 +81,6 @@ pub fn bridge<D: Desk>(alloc: Global, words: &Args, desk: &mut D) -> u8
 /// The same with another bound on what is taken from one recording.
 pub fn bridge_within<D: Desk>(alloc: Global, words: &Args, desk: &mut D, limit: u64) -> u8
     requires most { limit ≤ 2 ^ 40 }
-    requires least { 0 < limit }
 
     // All that it does to a desk that tells its contents: nothing but what the answer says.
     ensures contents { IsTrue D.tells → Answered words.now limit (D.contents desk.old) (D.contents desk.new) (D.write_faults desk.old) (D.write_faults desk.new) result }
@@ -116,6 +116,7 @@ pub fn bridge_within<D: Desk>(alloc: Global, words: &Args, desk: &mut D, limit: 
     ensures answers { is_answer result ≡ true }
     ensures usage { (result ≡ 2) ↔ ((c : words_mean.Command) → Means words.now c → ⊥) }
     ensures read_fault { result ≡ 3 → Rose (D.read_faults desk.old) (D.read_faults desk.new) }
+    ensures read_fault_told { (result ≡ 3 → ⊥) → D.read_faults desk.new ≡ D.read_faults desk.old }
     ensures write_fault { result ≡ 4 → Rose (D.write_faults desk.old) (D.write_faults desk.new) }
 
     // It answers 0 for every whole input that is converted.
@@ -140,6 +141,7 @@ fn run<D: Desk>(alloc: Global, words: &Args, desk: &mut D, limit: u64) -> Status
     ensures usage { (result ≡ status.Usage) ↔ ((c : words_mean.Command) → Means words.now c → ⊥) }
     ensures memory { wants_memory result ≡ false }
     ensures fault { HasFault (D.read_faults desk.old) (D.read_faults desk.new) (D.write_faults desk.old) (D.write_faults desk.new) result }
+    ensures told { (result ≡ status.ReadFault → ⊥) → D.read_faults desk.new ≡ D.read_faults desk.old }
     ensures reads { D.read_faults desk.old ≤ D.read_faults desk.new }
     ensures writes { D.write_faults desk.old ≤ D.write_faults desk.new }
 {

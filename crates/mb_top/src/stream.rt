@@ -6,6 +6,7 @@ ghost use Rattle.mb_top.specs.Command.{IsBuilt};
 ghost use Rattle.mb_top.specs.Meaning.{meaning};
 ghost use Rattle.mb_top.specs.Job.{job_command, job_offset, JobStands};
 ghost use Rattle.mb_top.specs.Answer.{Ran, HasFault, is_usage, wants_memory};
+ghost use Rattle.mb_top.specs.declared.status.Status.TheVariants as status;
 
 use crate::command::Command;
 use crate::job::Job;
@@ -29,6 +30,7 @@ pub(crate) fn carry_out<D: Desk>(
     ensures command { is_usage result ≡ false }
     ensures memory { wants_memory result ≡ false }
     ensures fault { HasFault (D.read_faults desk.old) (D.read_faults desk.new) (D.write_faults desk.old) (D.write_faults desk.new) result }
+    ensures told { (result ≡ status.ReadFault → ⊥) → D.read_faults desk.new ≡ D.read_faults desk.old }
     ensures reads { D.read_faults desk.old ≤ D.read_faults desk.new }
     ensures writes { D.write_faults desk.old ≤ D.write_faults desk.new }
 {
@@ -48,6 +50,7 @@ fn stream<D: Desk>(mut job: Job, desk: &mut D, limit: u64) -> Status
     ensures command { is_usage result ≡ false }
     ensures memory { wants_memory result ≡ false }
     ensures fault { HasFault (D.read_faults desk.old) (D.read_faults desk.new) (D.write_faults desk.old) (D.write_faults desk.new) result }
+    ensures told { (result ≡ status.ReadFault → ⊥) → D.read_faults desk.new ≡ D.read_faults desk.old }
     ensures reads { D.read_faults desk.old ≤ D.read_faults desk.new }
     ensures writes { D.write_faults desk.old ≤ D.write_faults desk.new }
 {

@@ -5,7 +5,7 @@ use Rattle.mb_carrier.specs.Lines.{listed}
 use Rattle.mb_carrier.specs.declared.spec.Spec.TheVariants.{Din}
 use Rattle.mb_carrier.proofs.ChainLemmas.{through-canonical, through-means, through-clean, through-whole}
 use Rattle.mb_top.specs.Command.{Converting, Listing}
-use Rattle.mb_top.specs.Answer.{read_all}
+use Rattle.mb_top.specs.Answer.{code_of, read_all}
 use Rattle.mb_top.specs.Output.{HasNotes, HasNoNotes}
 use Rattle.mb_top.proofs.AnswerLemmas.{answered, done, noted, went_through, cut-at_end, reads_all, completes, says-earlier, says-text, not_usage, read_fault, write_fault}
 use Rattle.mb_top.proofs.entry.bridge_within.Goals as goal
@@ -68,3 +68,7 @@ returns-clause-reads_all g c = λ command tells m no_reads no_writes short.
 pub returns-clause-complete : goal.returns-clause-complete
 returns-clause-complete g c = λ first between last tells m no_reads no_writes short is_whole.
     completes _ _ _ _ _ _ _ first between last (returns-clause-reads_all g c (Converting first between last) tells m no_reads no_writes short) m is_whole (returns-clause-contents g c tells)
+
+pub returns-clause-read_fault_told : goal.returns-clause-read_fault_told
+returns-clause-read_fault_told g c = λ other.
+    c.say.ensures.reads ∙ c.run-status.ensures.told (λ e. other (c.code.ensures ∙ ap code_of e))

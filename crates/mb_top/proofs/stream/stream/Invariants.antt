@@ -10,6 +10,7 @@ invariant-pieces g l =
       within : l.taken ≤ l.limit;
       command : job_command l.job ≡ job_command l.initial.job;
       offset : job_offset l.job ≡ l.taken;
+      reads_same : D.read_faults l.desk ≡ D.read_faults l.initial.desk;
       reads_later : D.read_faults l.initial.desk ≤ D.read_faults l.desk;
       writes_later : D.write_faults l.initial.desk ≤ D.write_faults l.desk;
       fed : (bytes : List ℕ) × (length bytes ≡ l.taken) × JobStands l.job bytes
