@@ -46,7 +46,6 @@ pub trait EventReader {
         ensures progress { OnSome result (2 * length input.new.now + owed self.new < 2 * length input.old.now + owed self.old) }
         ensures some { OnSome result (answer result ≡ [] → ⊥) }
         ensures none { IfNone result (input.new.now ≡ []) }
-        ensures some { OnSome result (answer result ≡ [] → ⊥) }
         ensures longest { IfSome result (IsLongest (beside self.new input.new.now)) }
         ensures goes { (bytes : List ℕ) (told : List Known) → stands self.old bytes told → IsFront told (known (spec self.old) (bytes ++ input.old.now)) →
             ReaderGoes (known (spec self.old)) (stands self.new) input.old.now input.new.now (answer result) bytes told }

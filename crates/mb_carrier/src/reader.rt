@@ -57,8 +57,8 @@ impl PortReader {
     }
 
     /// The next event or note of the bytes that were taken and of the input, which it takes from the front of the input.
-    /// What a byte makes known of earlier ones is told while it still stands in the input. `None` comes where the input
-    /// is used up and all of it is told. A run is lent from the input, never empty, and the longest that stands there.
+    /// `None` comes where the input is used up and all of it is told. A run is lent from the input, never empty, and the
+    /// longest that stands there.
     pub fn next<'a>(&mut self, input: &mut &'a [u8]) -> Option<PortStep<'a>>
         requires early { reader_offset self.old + length input.old.now < 2 ^ 63 }
         ensures spec { reader_spec self.new ≡ reader_spec self.old }
@@ -73,7 +73,6 @@ impl PortReader {
         ensures none { IfNone result (input.new.now ≡ []) }
         ensures all_told { IfNone result ((bytes : List ℕ) (told : List Known) → ReaderStands self.old bytes told → IsFront told (known (reader_spec self.old) (bytes ++ input.old.now)) →
             told ≡ known (reader_spec self.old) (bytes ++ input.old.now)) }
-        ensures some { OnSome result (answer (seen_of result) ≡ [] → ⊥) }
         ensures longest { IfSome result (λ step. IsLongest (beside self.new input.new.now) (seen_in step)) }
 
         // A caller's loop ends by this.
@@ -122,7 +121,6 @@ fn next_seen<'a>(carrier: &mut ReaderOf, input: &mut &'a [u8]) -> Option<Seen<'a
     ensures none { IfNone result (input.new.now ≡ []) }
     ensures all_told { IfNone result ((bytes : List ℕ) (told : List Known) → ReaderStandsBy carrier.old bytes told → IsFront told (known (reader_spec_by carrier.old) (bytes ++ input.old.now)) →
         told ≡ known (reader_spec_by carrier.old) (bytes ++ input.old.now)) }
-    ensures some { OnSome result (answer result ≡ [] → ⊥) }
     ensures longest { IfSome result (IsLongest (beside_by carrier.new input.new.now)) }
     ensures progress { OnSome result (2 * length input.new.now + reader_owed_by carrier.new < 2 * length input.old.now + reader_owed_by carrier.old) }
 {
