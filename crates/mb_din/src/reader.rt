@@ -229,8 +229,8 @@ impl DinReader {
         None
     }
 
-    /// A channel message that stands whole at the front of the input, of a status there or of the one that runs, taken in
-    /// one go: nearly all do. `None`, and nothing is taken, where anything else stands there.
+    /// Takes a channel message that stands whole at the front of the input, as nearly all do: of a status there, or of the
+    /// one that runs. `None`, and nothing is taken, where anything else stands there.
     #[inline(always)]
     fn take_message<'a>(&mut self, input: &mut &'a [u8]) -> Option<Seen<'a>>
         requires early { self.old.offset + length input.old.now < 2 ^ 63 }
