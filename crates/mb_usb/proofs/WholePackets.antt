@@ -1,6 +1,7 @@
 -- A packet that was taken whole: the same as its bytes one after the other.
-use Rattle.std.proofs.Common.{◌≡◌, ◌↔◌, ℕ, zero, suc, ◌+◌, ◌-◌, ◌/◌, ◌%◌, ◌≤◌, ◌≢◌, ◌⊎◌, inl, inr, Bool, true, false, ◌&&◌, ◌||◌, ◌==◌, nat_le, if◌then◌else◌, Option, Some, None, OnSome, IsSome, List, [], ◌∷◌, ◌++◌, length, take, drop, map, get_or, refl, sym, ◌∙◌, ap, ap₂, subst, arith, append-nil}
+use Rattle.std.proofs.Common.{◌≡◌, ◌↔◌, ℕ, zero, suc, ◌+◌, ◌-◌, ◌/◌, ◌%◌, ◌<◌, ◌≤◌, ◌≢◌, ◌⊎◌, inl, inr, Bool, true, false, not, ◌&&◌, ◌||◌, ◌==◌, nat_le, if◌then◌else◌, Option, Some, None, OnSome, IsSome, List, [], ◌∷◌, ◌++◌, length, take, drop, map, get_or, refl, sym, ◌∙◌, ap, ap₂, subst, arith, append-nil, length-append}
 use Rattle.std.proofs.lemmas.Bool.Decides.{nat_tests}
+use Rattle.std.proofs.lemmas.List.{take_all}
 use Rattle.mb_message.specs.Bytes.{is_data}
 use Rattle.mb_message.specs.declared.note.Note.{Note}
 use Rattle.mb_message.specs.declared.event.Seen.{Seen}
@@ -15,15 +16,17 @@ use Rattle.mb_usb.specs.declared.under.Under.{Under}
 use Rattle.mb_usb.specs.declared.under.Under.TheVariants.{Between, One, Two, Three}
 use Rattle.mb_usb.specs.declared.under.Packet.{Packet}
 use Rattle.mb_usb.specs.Reading.{used, suits_cin}
-use Rattle.mb_usb.specs.Under.{note_at, packet_behind}
+use Rattle.mb_usb.specs.Under.{is_of_cable, note_at, under_after, packet_after, packet_behind}
 use Rattle.mb_usb.specs.Hands.{Hands}
-use Rattle.mb_usb.specs.Whole.{WholeBytes, WholePacket}
+use Rattle.mb_usb.specs.Whole.{WholeBytes, WholePacket, ArePassed, PassedOver}
+use Rattle.mb_usb.specs.State.{IsBehind}
+use Rattle.mb_usb.proofs.HandsLemmas.{packet_behind-offset}
 use Rattle.mb_usb.specs.Cables.{port_by, only_cable}
 use Rattle.mb_usb.proofs.CablesLaw.{only_low}
 use Rattle.mb_usb.proofs.Steps.{step-pass, step-carry}
 use Rattle.mb_usb.proofs.EachCable.{carried-by}
 use Rattle.mb_usb.proofs.Longest.{used-three}
-use Rattle.mb_usb.proofs.OnlyCable.{OnlyTells, OnlyHolds, only_known, only-is, join, then-none}
+use Rattle.mb_usb.proofs.OnlyCable.{OnlyTells, OnlyHolds, only_known, only-is, join, then-none, then-pass, pass-behind, undue-behind}
 
 abbrev packet : ℕ → Under → Packet
 packet o u = record { offset = o; under = u; due = None }
@@ -246,3 +249,68 @@ bytes-run open_now (Some x) n at [] reader next three number when takes = absurd
 bytes-run open_now (Some x) n at (a ∷ []) reader next three number when takes = absurd (omega (arith, three))
 bytes-run open_now (Some x) n at (a ∷ b ∷ []) reader next three number when takes = absurd (omega (arith, three))
 bytes-run open_now (Some x) n at (a ∷ b ∷ d ∷ e ∷ l) reader next three number when takes = absurd (omega (arith, three))
+
+-- Bytes that are passed over.
+
+pub one-passed : (c : ℕ) (p q : Packet) (b : ℕ) (rest : List ℕ) → p.due ≡ None → is_of_cable c p.under ≡ false → q ≡ packet_after p b → PassedOver c p q (b ∷ rest) rest
+one-passed c p q b rest due other after = record { taken = b ∷ []; front = refl; passed = (due, other, tt); behind = after }
+
+not_same : (h c : ℕ) → h ≢ c → (h == c) ≡ false
+not_same h c apart = grind (arith, nat_tests)
+
+pub four-passed : (c : ℕ) (p q : Packet) (h a b d : ℕ) (left : List ℕ) → p.due ≡ None → is_of_cable c p.under ≡ false → p.under ≡ Between → h / 16 ≢ c → 1 < h % 16 →
+    q ≡ packet_behind p (h ∷ a ∷ b ∷ d ∷ []) → PassedOver c p q (h ∷ a ∷ b ∷ d ∷ left) left
+four-passed c p q h a b d left due other between apart carries after =
+    let quiet : note_at p.under h p.offset ≡ None =
+    ap (λ (u : Under). note_at u h p.offset) between ∙ ap (λ (t : Bool). if t then Some (record { kind = ReservedCin; at = p.offset }) else None) (not_reserved (h % 16) carries) in
+    let first : under_after p.under h ≡ One h = ap (λ (u : Under). under_after u h) between in
+    let next : Packet = packet (p.offset + 1) (One h) in
+    let is_next : packet_after p h ≡ next = ap₂ (λ (u : Under) (n : Option Note). record { offset = p.offset + 1; under = u; due = n }) first quiet in
+    let foreign : (left_now : ℕ) → ((h / 16 == c) && not (left_now == 0)) ≡ false = λ left_now. ap (λ (t : Bool). t && not (left_now == 0)) (not_same (h / 16) c apart) in
+    record {
+      taken = h ∷ a ∷ b ∷ d ∷ [];
+      front = refl;
+      passed = (
+        due,
+        other,
+        subst (λ (z : Packet). ArePassed c z (a ∷ b ∷ d ∷ [])) (sym is_next)
+            (refl, foreign (used (h % 16)), (refl, foreign (used (h % 16) - 1), (refl, foreign (used (h % 16) - 2), tt))),
+      );
+      behind = after;
+    }
+  where
+    not_reserved : (n : ℕ) → 1 < n → nat_le n 1 ≡ false
+    not_reserved n low = grind (arith, nat_tests)
+
+then-passed : (c : ℕ) (a p : Packet) (x r : State) (start : List ℕ) (taken left : List ℕ) → OnlyTells c a x p r start (taken ++ left) [] → ArePassed c p taken → OnlyTells c a x (packet_behind p taken) r start left []
+then-passed c a p x r start [] left before passed = before
+then-passed c a p x r start (b ∷ bs) left before passed =
+    then-passed c a (packet_after p b) x r start bs left
+    (then-pass c a p p (packet_after p b) x r start (b ∷ (bs ++ left)) (bs ++ left) b before passed.0 (ap (λ (n : Option Note). record p { due = n }) passed.0) passed.1 refl refl)
+    passed.2
+
+pub then-over : (c : ℕ) (a p q t : Packet) (x r : State) (start input left : List ℕ) → OnlyTells c a x p r start input [] → p.due ≡ None → q ≡ record p { due = None } → PassedOver c q t input left → OnlyTells c a x t r start left []
+then-over c a p q t x r start input left before due same w =
+    let at_q : OnlyTells c a x q r start input [] = then-none c a p q x r start input before due same in
+    subst (λ (z : Packet). OnlyTells c a x z r start left []) (sym w.behind)
+    (then-passed c a q x r start w.taken left (subst (λ (z : List ℕ). OnlyTells c a x q r start z []) w.front at_q) w.passed)
+
+passed-behind : (c : ℕ) (p : Packet) (r : State) (taken : List ℕ) → IsBehind p r → ArePassed c p taken → IsBehind (packet_behind p taken) r
+passed-behind c p r [] h passed = h
+passed-behind c p r (b ∷ bs) h passed =
+    passed-behind c (packet_after p b) r bs (pass-behind p p (packet_after p b) r b h (ap (λ (n : Option Note). record p { due = n }) passed.0) refl) passed.2
+
+pub over-behind : (c : ℕ) (p q t : Packet) (r : State) (input left : List ℕ) → IsBehind p r → q ≡ record p { due = None } → PassedOver c q t input left → IsBehind t r
+over-behind c p q t r input left h same w =
+    subst (λ (z : Packet). IsBehind z r) (sym w.behind) (passed-behind c q r w.taken (undue-behind p q r h same) w.passed)
+
+pub over-ends : (c : ℕ) (q t : Packet) (input left : List ℕ) → PassedOver c q t input left → t.offset + length left ≡ q.offset + length input
+over-ends c q t input left w =
+    omega (arith, ap (λ (z : Packet). z.offset) w.behind, packet_behind-offset q w.taken, ap length w.front, length-append w.taken left)
+
+-- three elements, and those behind them
+pub front-three : (xs : List ℕ) → 3 ≤ length xs → xs ≡ get_or xs 0 0 ∷ (get_or xs 1 0 ∷ (get_or xs 2 0 ∷ take (length xs - 3) (drop 3 xs)))
+front-three [] few = absurd (omega arith)
+front-three (a ∷ []) few = absurd (omega arith)
+front-three (a ∷ b ∷ []) few = absurd (omega arith)
+front-three (a ∷ b ∷ d ∷ l) few = ap (λ z. a ∷ (b ∷ (d ∷ z))) (sym (take_all (length (a ∷ b ∷ d ∷ l) - 3) l (omega arith)))

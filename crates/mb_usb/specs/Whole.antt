@@ -2,13 +2,15 @@
 --
 --   WholeBytes number bytes ..     the bytes that a packet uses were taken whole by its cable's reader
 --   WholePacket cable ..           a packet of the cable was taken
-use Rattle.std.specs.Prelude.{◌≡◌, ℕ, ◌+◌, ◌/◌, ◌%◌, ◌≢◌, true, None, List, ◌∷◌, ◌++◌, length, take}
+--   PassedOver cable ..            bytes were passed over that aren't the cable's
+use Rattle.std.specs.Prelude.{◌≡◌, ℕ, ◌+◌, ◌/◌, ◌%◌, ◌≢◌, true, false, None, List, [], ◌∷◌, ◌++◌, length, take}
 use Rattle.mb_stream.specs.Told.{Told}
 use Rattle.mb_din.specs.Reader.{TakesWhole}
 use Rattle.mb_din.specs.State.{State}
 use Rattle.mb_usb.specs.declared.under.Under.TheVariants.{Between}
 use Rattle.mb_usb.specs.declared.under.Packet.{Packet}
 use Rattle.mb_usb.specs.Reading.{used, suits_rest}
+use Rattle.mb_usb.specs.Under.{is_of_cable, packet_after, packet_behind}
 
 -- the three bytes suit the code index number, so that nothing is remarked of the packet
 pub record WholeBytes (number : ℕ) (bytes : List ℕ) (at : ℕ) (reader reader_now : State) (answer : List Told) : Type 0 where
@@ -25,3 +27,14 @@ pub record WholePacket (cable : ℕ) (was now : Packet) (reader reader_now : Sta
   pub between : was.under ≡ Between
   pub behind : now ≡ record { offset = was.offset + 4; under = Between; due = None }
   pub carries : WholeBytes (head % 16) bytes (was.offset + 1) reader reader_now answer
+
+-- one after the other: none is the cable's, and nothing is remarked before the last
+abbrev pub ArePassed : (cable : ℕ) → Packet → List ℕ → Type 0
+ArePassed cable p [] = Unit {0}
+ArePassed cable p (b ∷ bs) = (p.due ≡ None) × (is_of_cable cable p.under ≡ false) × ArePassed cable (packet_after p b) bs
+
+pub record PassedOver (cable : ℕ) (was now : Packet) (input left : List ℕ) : Type 0 where
+  pub taken : List ℕ
+  pub front : input ≡ taken ++ left
+  pub passed : ArePassed cable was taken
+  pub behind : now ≡ packet_behind was taken

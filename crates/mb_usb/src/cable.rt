@@ -14,7 +14,7 @@ ghost use Rattle.mb_usb.specs.State.{owed_alone, owed_one, IsBehind};
 
 use crate::carry::carry;
 use crate::under::{Packet, is_of, taken};
-use crate::whole::take_packet;
+use crate::whole::{pass_over, take_packet};
 use mb_din::DinReader;
 use mb_message::Seen;
 use std::marker::Model;
@@ -129,8 +129,7 @@ fn read_cable<'a>(
                 return Some(seen);
             }
         } else {
-            packet.pass(*byte);
-            *input = rest;
+            *input = pass_over(own, packet, *byte, rest);
         }
     }
 }

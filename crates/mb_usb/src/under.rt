@@ -1,6 +1,6 @@
 //! The packet under way (USB-MIDI 1.0, section 4 and table 4-1).
 
-ghost use Rattle.std.specs.Prelude.{◌≡◌, ◌+◌, ◌/◌, ◌^◌, ◌<◌, ◌≤◌, length, List};
+ghost use Rattle.std.specs.Prelude.{◌≡◌, ◌+◌, ◌/◌, ◌^◌, ◌<◌, ◌≤◌, length, List, [], ◌∷◌};
 ghost use Rattle.mb_usb.specs.Reading.{used, suits_cin};
 ghost use Rattle.mb_usb.specs.Under.{packet_after, packet_behind, under_after, left_of, note_at, head_of, is_of_cable, taken_of};
 
@@ -59,6 +59,17 @@ impl Packet {
         self.due = note(self.under, byte, self.offset);
         self.under = after(self.under, byte);
         self.offset += 1;
+    }
+
+    /// A packet was taken whole, of which nothing was taken before.
+    #[inline(always)]
+    pub fn pass_whole(&mut self, head: u8, first: u8, second: u8, third: u8)
+        requires between { self.old.under ≡ Under.Between }
+        requires early { self.old.offset + 4 ≤ 2 ^ 63 }
+        ensures { self.new ≡ packet_behind self.old (head ∷ first ∷ second ∷ third ∷ []) }
+    {
+        self.due = note(Under::Three(head, first, second), third, self.offset + 3);
+        self.offset += 4;
     }
 
     /// These bytes were taken.

@@ -1,8 +1,11 @@
-//! Packets that stand whole in the input, taken in one go: nearly all do, and byte by byte each costs more than twice the time.
+//! Packets that stand whole in the input, taken or passed over in one go: nearly all do, and byte by byte each costs more than twice
+//! the time.
 
-ghost use Rattle.std.specs.Prelude.{◌≡◌, ◌+◌, ◌<◌, ◌≤◌, ◌^◌, None, [], ℕ, length, OnSome, IfNone};
+ghost use Rattle.std.specs.Prelude.{◌≡◌, ◌≢◌, ◌+◌, ◌/◌, ◌%◌, ◌<◌, ◌≤◌, ◌^◌, false, None, [], ◌∷◌, ℕ, length, OnSome, IfNone};
 ghost use Rattle.mb_din.specs.Turn.{answer};
-ghost use Rattle.mb_usb.specs.Whole.{WholeBytes, WholePacket};
+ghost use Rattle.std.specs.Bool.{OnTrue};
+ghost use Rattle.mb_usb.specs.Under.{is_of_cable};
+ghost use Rattle.mb_usb.specs.Whole.{WholeBytes, WholePacket, PassedOver};
 
 use crate::under::{Packet, Under};
 use mb_din::DinReader;
@@ -74,4 +77,38 @@ fn take_bytes<'a>(number: u8, at: u64, bytes: &'a [u8], din: &mut DinReader) -> 
         return din.read_run(at, bytes);
     }
     None
+}
+
+/// Passes over a byte that isn't the cable's, or over all of a packet of another cable where it stands whole in the input. What
+/// is left is answered. A packet with a reserved number isn't passed whole, since its note is told before its second byte
+/// is taken. Out of line: a reader of one cable alone seldom comes here, and its own packets are read faster so.
+#[inline(never)]
+pub fn pass_over<'a>(own: u8, packet: &mut Packet, byte: u8, rest: &'a [u8]) -> &'a [u8]
+    requires rested { packet.old.due ≡ None }
+    requires early { packet.old.offset + length rest.now + 1 < 2 ^ 63 }
+    requires other { is_of_cable own packet.old.under ≡ false }
+    ensures passed { PassedOver own packet.old packet.new (byte ∷ rest.now) result.now }
+    ensures fewer { length result.now ≤ length rest.now }
+{
+    if is_others(own, packet.under, byte) {
+        if let [first, second, third, left @ ..] = rest {
+            packet.pass_whole(byte, *first, *second, *third);
+            return left;
+        }
+    }
+    packet.pass(byte);
+    rest
+}
+
+/// Whether a packet of another cable begins with this byte, and nothing is remarked of it there.
+#[inline(always)]
+fn is_others(own: u8, under: Under, head: u8) -> bool
+    ensures between { OnTrue result (under ≡ Under.Between) }
+    ensures other { OnTrue result (head / 16 ≢ own) }
+    ensures carries { OnTrue result (1 < head % 16) }
+{
+    match under {
+        Under::Between => head / 16 != own && head % 16 > 1,
+        _ => false,
+    }
 }

@@ -1,4 +1,4 @@
-use Rattle.std.proofs.Common.{◌≡◌, ◌≢◌, ◌<◌, ◌∙◌, None, Some, true, [], ◌∷◌, ap, length, sym, refl, rules, arith}
+use Rattle.std.proofs.Common.{◌≡◌, ◌≢◌, ◌<◌, ◌∙◌, ℕ, None, Some, true, List, [], ◌∷◌, ap, subst, length, sym, refl, rules, arith}
 use Rattle.std.proofs.lemmas.List.{nil_from_length}
 use Rattle.mb_stream.specs.Told.{Notes}
 use Rattle.mb_din.specs.Turn.{answer}
@@ -6,8 +6,9 @@ use Rattle.mb_usb.specs.declared.under.Packet.{Packet}
 use Rattle.mb_usb.specs.Under.{left_of, is_of_cable}
 use Rattle.mb_usb.specs.State.{owed_alone}
 use Rattle.mb_usb.proofs.ReadLemmas.{shorter}
-use Rattle.mb_usb.proofs.WholePackets.{then-packet}
-use Rattle.mb_usb.proofs.OnlyCable.{kept-tells, kept-behind, kept-owes, begins, is-of, then-due, then-pass, then-carry, then-none, tells-literal, tolds, all_told-literal, pass-behind, undue-behind, carry-behind, carry-owed, falls}
+use Rattle.mb_usb.specs.Whole.{PassedOver}
+use Rattle.mb_usb.proofs.WholePackets.{then-packet, then-over, over-behind, over-ends}
+use Rattle.mb_usb.proofs.OnlyCable.{kept-tells, kept-behind, kept-owes, begins, is-of, then-due, then-carry, then-none, tells-literal, tolds, all_told-literal, undue-behind, carry-behind, carry-owed, falls}
 use Rattle.mb_usb.proofs.Steps.{same-undue}
 use Rattle.mb_usb.proofs.cable.read_cable.Goals as goal
 
@@ -43,13 +44,18 @@ returns-in_default-split_first-clause-all_told c =
 
 pub bytes-preserved : goal.bytes-preserved
 bytes-preserved c =
-    let less : length c.in-Some-split_first.rest.now < length c.take_packet.new.input.now = search rules in
+    let first : c.take_packet.new.input.now ≡ c.in-Some-split_first.byte.now ∷ c.in-Some-split_first.rest.now = search rules in
+    let over = subst (λ (z : List ℕ). PassedOver c.args.own c.take_packet.new.packet c.pass_over.new.packet z c.pass_over.result.now) (sym first) c.pass_over.ensures.passed in
+    let before = kept-tells c.args.own c.args.packet.now c.bytes.packet c.args.din.now c.bytes.din c.take_packet.new.din c.args.input.now.now c.bytes.input.now c.take_packet.new.input.now c.bytes.invariant.tells c.in_default-take_packet.ensures.reader c.in_default-take_packet.ensures.input in
+    let same = c.in_default-take_packet.ensures.packet ∙ c.take_due.ensures.told in
+    let less : length c.pass_over.result.now < length c.take_packet.new.input.now = omega (arith, c.pass_over.ensures.fewer, ap length first) in
     record {
-      behind = pass-behind c.bytes.packet c.take_packet.new.packet c.pass.new.self c.take_packet.new.din c.in-Some-split_first.byte.now (kept-behind c.bytes.packet c.bytes.din c.take_packet.new.din c.bytes.invariant.behind c.in_default-take_packet.ensures.reader) (c.in_default-take_packet.ensures.packet ∙ c.take_due.ensures.told) c.pass.ensures;
-      tells = then-pass c.args.own c.args.packet.now c.bytes.packet c.take_packet.new.packet c.pass.new.self c.args.din.now c.take_packet.new.din c.args.input.now.now c.take_packet.new.input.now c.in-Some-split_first.rest.now c.in-Some-split_first.byte.now (kept-tells c.args.own c.args.packet.now c.bytes.packet c.args.din.now c.bytes.din c.take_packet.new.din c.args.input.now.now c.bytes.input.now c.take_packet.new.input.now c.bytes.invariant.tells c.in_default-take_packet.ensures.reader c.in_default-take_packet.ensures.input)
-          (sym c.take_due.ensures.due ∙ c.in_default.is) (c.in_default-take_packet.ensures.packet ∙ c.take_due.ensures.told) (sym c.is_of.ensures ∙ c.if-is_of.false) c.pass.ensures (search rules);
-      ends = search rules;
-      owes = falls c.args.own c.pass.new.self c.take_packet.new.din c.in-Some-split_first.rest.now c.take_packet.new.input.now _ _ less (kept-owes c.args.own c.bytes.packet c.bytes.din c.take_packet.new.din c.bytes.input.now c.take_packet.new.input.now _ c.bytes.invariant.owes c.in_default-take_packet.ensures.reader c.in_default-take_packet.ensures.input);
+      behind = over-behind c.args.own c.bytes.packet c.take_packet.new.packet c.pass_over.new.packet c.take_packet.new.din c.take_packet.new.input.now c.pass_over.result.now
+          (kept-behind c.bytes.packet c.bytes.din c.take_packet.new.din c.bytes.invariant.behind c.in_default-take_packet.ensures.reader) same over;
+      tells = then-over c.args.own c.args.packet.now c.bytes.packet c.take_packet.new.packet c.pass_over.new.packet c.args.din.now c.take_packet.new.din c.args.input.now.now c.take_packet.new.input.now c.pass_over.result.now before
+          (sym c.take_due.ensures.due ∙ c.in_default.is) same over;
+      ends = omega (arith, over-ends c.args.own c.take_packet.new.packet c.pass_over.new.packet c.take_packet.new.input.now c.pass_over.result.now over, ap (λ (p : Packet). p.offset) same, ap length c.in_default-take_packet.ensures.input, c.bytes.invariant.ends);
+      owes = falls c.args.own c.pass_over.new.packet c.take_packet.new.din c.pass_over.result.now c.take_packet.new.input.now _ _ less (kept-owes c.args.own c.bytes.packet c.bytes.din c.take_packet.new.din c.bytes.input.now c.take_packet.new.input.now _ c.bytes.invariant.owes c.in_default-take_packet.ensures.reader c.in_default-take_packet.ensures.input);
     }
 
 pub bytes-preserved-in_default-carry : goal.bytes-preserved-in_default-carry
