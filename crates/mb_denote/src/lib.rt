@@ -13,6 +13,3 @@ pub use collector::Collector;
 pub use counts::Counts;
 pub use denotation::{Den, Items, Rts};
 pub use item::{Item, RtAt};
-
-#[cfg(test)]
-mod tests;

@@ -12,5 +12,3 @@ pub use frames::{Frames, Part};
 pub use put::put_frame;
 
 pub mod laws;
-#[cfg(test)]
-mod tests;

@@ -15,6 +15,3 @@ pub use desk_out::DeskOut;
 pub use memory_desk::MemoryDesk;
 pub use out::{Out, Refused};
 pub use real_desk::RealDesk;
-
-#[cfg(test)]
-mod tests;

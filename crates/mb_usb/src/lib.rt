@@ -21,8 +21,3 @@ mod writer;
 pub use cable::CableReader;
 pub use reader::UsbReader;
 pub use writer::{FINISH_ROOM, PUT_ROOM, UsbWriter};
-
-#[cfg(test)]
-mod reading_tests;
-#[cfg(test)]
-mod tests;

@@ -1,4 +1,6 @@
-use super::*;
+//! Values: lengths of short messages, and that values keep their bytes.
+
+use mb_message::{Mark, Rt, Short, data_len, suits};
 use std::test::Fail;
 
 #[test]

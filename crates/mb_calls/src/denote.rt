@@ -1,4 +1,6 @@
-use super::*;
+//! What marks mean, mark by mark.
+
+use mb_denote::{Collector, Counts, Den, Item, RtAt};
 use mb_message::{Mark, Rt, Short, suits};
 use std::alloc::Global;
 use std::test::Fail;

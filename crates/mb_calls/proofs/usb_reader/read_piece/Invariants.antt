@@ -1,6 +1,6 @@
 use Rattle.std.proofs.Common.{◌≡◌, ◌+◌, ◌*◌, length}
 use Rattle.mb_usb.specs.State.{owed}
-use Rattle.mb_usb.proofs.reading_tests.read_piece.Given as goal
+use Rattle.mb_calls.proofs.usb_reader.read_piece.Given as goal
 
 abbrev pub invariant-told : goal.invariant-told
 invariant-told l = record {

@@ -1,8 +1,10 @@
+//! The readers of all cables and of one.
+
 ghost use Rattle.std.specs.Prelude.{◌≡◌, ◌+◌, ◌<◌, ◌^◌, length};
 
-use super::*;
 use arrayvec::ArrayVec;
 use mb_message::{Buf, Ev, Mark, Note, NoteKind, PortSeen, Rt, Seen, Short};
+use mb_usb::{CableReader, UsbReader};
 use std::test::Fail;
 
 #[test]

@@ -3,7 +3,7 @@ use Rattle.std.proofs.lemmas.Bool.Decides.{nat_tests}
 use Rattle.std.proofs.lemmas.List.{take-append-drop}
 use Rattle.arrayvec.specs.ArrayVec.{array_vec_len}
 use Rattle.mb_usb.proofs.Loops.{Sofar-more, run_suits, parts_pass}
-use Rattle.mb_usb.proofs.tests.put_all.Goals as goal
+use Rattle.mb_calls.proofs.usb_writer.put_all.Goals as goal
 
 parts_of : (n : ℕ) (front back whole : List ℕ) → front ≡ take n whole → back ≡ drop n whole → front ++ back ≡ whole
 parts_of n front back whole f b = ap₂ (λ xs ys. xs ++ ys) f b ∙ take-append-drop n whole

@@ -1,4 +1,6 @@
-use super::*;
+//! Frames, cut at every place, written and read byte by byte.
+
+use mb_frames::{Frames, Part, put_frame};
 use std::alloc::AllocError;
 use std::test::Fail;
 

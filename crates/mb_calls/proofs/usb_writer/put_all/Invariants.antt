@@ -3,7 +3,7 @@ use Rattle.std.specs.List.{list_all}
 use Rattle.arrayvec.specs.ArrayVec.{array_vec_len}
 use Rattle.mb_message.specs.Bytes.{is_data}
 use Rattle.mb_usb.proofs.Loops.{Sofar}
-use Rattle.mb_usb.proofs.tests.put_all.Given as goal
+use Rattle.mb_calls.proofs.usb_writer.put_all.Given as goal
 
 abbrev pub invariant-pieces : goal.invariant-pieces
 invariant-pieces l = record {

@@ -1,4 +1,6 @@
-use super::*;
+//! The byte line's reader and writer.
+
+use mb_din::{DinReader, DinWriter};
 use mb_message::{Buf, Ev, Note, NoteKind, Rt, Seen, Short};
 use std::test::Fail;
 

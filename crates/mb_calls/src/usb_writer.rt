@@ -1,3 +1,5 @@
+//! The writer of a cable.
+
 ghost use Rattle.std.specs.Prelude.{◌≡◌, ◌+◌, ◌*◌, ◌≤◌, true, List, ◌++◌, length, map};
 ghost use Rattle.std.specs.List.{list_all};
 ghost use Rattle.arrayvec.specs.ArrayVec.{array_vec_len};
@@ -7,8 +9,8 @@ ghost use Rattle.mb_stream.specs.Appended.{Appended};
 ghost use Rattle.mb_usb.specs.Writer.{Stands};
 ghost use Rattle.mb_usb.specs.Written.{usb_live};
 
-use super::*;
 use mb_message::{Buf, Ev, Rt, Short};
+use mb_usb::{PUT_ROOM, UsbWriter};
 use std::test::Fail;
 
 #[test]

@@ -1,5 +1,5 @@
 use Rattle.std.proofs.Common.{◌+◌, ◌<◌, ◌^◌, length}
-use Rattle.mb_usb.proofs.reading_tests.told_in_pieces.Given as goal
+use Rattle.mb_calls.proofs.usb_reader.told_in_pieces.Given as goal
 
 abbrev pub invariant-pieces : goal.invariant-pieces
 invariant-pieces l = record {

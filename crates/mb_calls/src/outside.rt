@@ -1,5 +1,7 @@
-use super::*;
+//! Words, desks and outs.
+
 use mb_message::Memory;
+use mb_outside::{Args, Desk, DeskOut, Failed, MemoryDesk, Out, RealDesk, Refused};
 use std::test::Fail;
 
 fn desk_with(rt: &HostRuntime, input: &[u8], room: usize) -> Result<MemoryDesk, Memory> {

@@ -1,0 +1,18 @@
+//! Tests alone: the calls of the lower crates, each on its happy path, and what no clause says of them. They stand here and not
+//! in their crates, since a crate with tests is proved twice.
+#![tactic(auto)]
+
+#[cfg(test)]
+mod denote;
+#[cfg(test)]
+mod din;
+#[cfg(test)]
+mod frames;
+#[cfg(test)]
+mod message;
+#[cfg(test)]
+mod outside;
+#[cfg(test)]
+mod usb_reader;
+#[cfg(test)]
+mod usb_writer;
