@@ -5,7 +5,7 @@ ghost use Rattle.arrayvec.specs.ArrayVec.{array_vec_len};
 ghost use Rattle.mb_message.specs.Signs.{Sign, suits_event, IsShortRun, open_behind, signs_of_event};
 ghost use Rattle.mb_stream.specs.Standing.{suited, is_open};
 ghost use Rattle.mb_stream.specs.Told.{Known};
-ghost use Rattle.mb_din.specs.Reader.{IsLongest};
+ghost use Rattle.mb_din.specs.Reader.{IsLongest, breaks, StatusNext};
 ghost use Rattle.mb_din.specs.Turn.{answer};
 ghost use Rattle.mb_outside.specs.Taking.{IsFront};
 ghost use Rattle.mb_carrier.specs.Carrier.{known, end_told, told_signs, marks_of, marks_so_far, live, written};
@@ -47,6 +47,7 @@ pub trait EventReader {
         ensures some { OnSome result (answer result ≡ [] → ⊥) }
         ensures none { IfNone result (input.new.now ≡ []) }
         ensures longest { IfSome result (IsLongest (beside self.new input.new.now)) }
+        ensures before { breaks (answer result) ≡ true → StatusNext input.new.now }
         ensures goes { (bytes : List ℕ) (told : List Known) → stands self.old bytes told → IsFront told (known (spec self.old) (bytes ++ input.old.now)) →
             ReaderGoes (known (spec self.old)) (stands self.new) input.old.now input.new.now (answer result) bytes told }
         ensures all_told { IfNone result ((bytes : List ℕ) (told : List Known) → stands self.old bytes told → IsFront told (known (spec self.old) (bytes ++ input.old.now)) →

@@ -1,8 +1,8 @@
 //! A reader of whatever port a spec names.
 
-ghost use Rattle.std.specs.Prelude.{◌≡◌, ℕ, ◌+◌, ◌*◌, ◌^◌, ◌<◌, ◌≤◌, not, List, [], ◌++◌, length, OnSome, IfSome, IfNone};
+ghost use Rattle.std.specs.Prelude.{◌≡◌, ℕ, ◌+◌, ◌*◌, ◌^◌, true, ◌<◌, ◌≤◌, not, List, [], ◌++◌, length, OnSome, IfSome, IfNone};
 ghost use Rattle.mb_stream.specs.Told.{Known};
-ghost use Rattle.mb_din.specs.Reader.{IsLongest};
+ghost use Rattle.mb_din.specs.Reader.{IsLongest, breaks, StatusNext};
 ghost use Rattle.mb_din.specs.Turn.{answer};
 ghost use Rattle.mb_outside.specs.Taking.{IsFront};
 ghost use Rattle.mb_carrier.specs.Carrier.{known, end_told, whole};
@@ -75,6 +75,9 @@ impl PortReader {
             told ≡ known (reader_spec self.old) (bytes ++ input.old.now)) }
         ensures longest { IfSome result (λ step. IsLongest (beside self.new input.new.now) (seen_in step)) }
 
+        // What a status breaks is told of while the status still stands in the input.
+        ensures before { breaks (answer (seen_of result)) ≡ true → StatusNext input.new.now }
+
         // A caller's loop ends by this.
         ensures progress { OnSome result (2 * length input.new.now + reader_owed self.new < 2 * length input.old.now + reader_owed self.old) }
     {
@@ -122,6 +125,7 @@ fn next_seen<'a>(carrier: &mut ReaderOf, input: &mut &'a [u8]) -> Option<Seen<'a
     ensures all_told { IfNone result ((bytes : List ℕ) (told : List Known) → ReaderStandsBy carrier.old bytes told → IsFront told (known (reader_spec_by carrier.old) (bytes ++ input.old.now)) →
         told ≡ known (reader_spec_by carrier.old) (bytes ++ input.old.now)) }
     ensures longest { IfSome result (IsLongest (beside_by carrier.new input.new.now)) }
+    ensures before { breaks (answer result) ≡ true → StatusNext input.new.now }
     ensures progress { OnSome result (2 * length input.new.now + reader_owed_by carrier.new < 2 * length input.old.now + reader_owed_by carrier.old) }
 {
     match carrier {

@@ -1,6 +1,6 @@
 //! The reader of the byte line.
 
-ghost use Rattle.std.specs.Prelude.{◌≡◌, ◌↔◌, ◌+◌, ◌*◌, ◌<◌, ◌≤◌, ◌^◌, ◌&&◌, true, Some, [], ◌∷◌, ◌++◌, ℕ, List, length, OnSome, IsSome, IfSome, IfNone};
+ghost use Rattle.std.specs.Prelude.{◌≡◌, ◌↔◌, ◌+◌, ◌*◌, ◌<◌, ◌≤◌, ◌^◌, ◌&&◌, true, false, Some, [], ◌∷◌, ◌++◌, ℕ, List, length, OnSome, IsSome, IfSome, IfNone};
 ghost use Rattle.mb_message.specs.Bytes.{is_channel, is_data, is_realtime, data_length};
 ghost use Rattle.mb_stream.specs.Payload.{Entry, Silent, heard_from};
 ghost use Rattle.mb_stream.specs.Groups.{last_of, is_sysex};
@@ -99,6 +99,7 @@ impl DinReader {
         ensures whole { OnSome result (TakesWhole self.old self.new at (status ∷ data1 ∷ []) (answer result)) }
         ensures when { IsSome result ↔ ((free_now self.old && is_data data1) ≡ true) }
         ensures some { OnSome result (answer result ≡ [] → ⊥) }
+        ensures unbroken { breaks (answer result) ≡ false }
         ensures unless { IfNone result (self.new ≡ self.old) }
     {
         if !is_free(self.progress) || data1 >= 0x80 {
@@ -120,6 +121,7 @@ impl DinReader {
         ensures whole { OnSome result (TakesWhole self.old self.new at (status ∷ data1 ∷ data2 ∷ []) (answer result)) }
         ensures when { IsSome result ↔ ((free_now self.old && is_data data1 && is_data data2) ≡ true) }
         ensures some { OnSome result (answer result ≡ [] → ⊥) }
+        ensures unbroken { breaks (answer result) ≡ false }
         ensures unless { IfNone result (self.new ≡ self.old) }
     {
         if !is_free(self.progress) || data1 >= 0x80 || data2 >= 0x80 {
@@ -138,6 +140,7 @@ impl DinReader {
         requires realtime { is_realtime byte ≡ true }
         ensures whole { TakesWhole self.old self.new at (byte ∷ []) (answer (Some result)) }
         ensures some { answer (Some result) ≡ [] → ⊥ }
+        ensures unbroken { breaks (answer (Some result)) ≡ false }
     {
         self.offset = at + 1;
         realtime(at, byte)
@@ -153,6 +156,7 @@ impl DinReader {
         ensures whole { OnSome result (TakesWhole self.old self.new at bytes.now (answer result)) }
         ensures when { IsSome result ↔ ((open_now self.old && is_all_data bytes.now) ≡ true) }
         ensures some { OnSome result (answer result ≡ [] → ⊥) }
+        ensures unbroken { breaks (answer result) ≡ false }
         ensures unless { IfNone result (self.new ≡ self.old) }
     {
         if !is_open(self.progress) {

@@ -23,12 +23,12 @@ use Rattle.mb_usb.specs.declared.under.Packet.{Packet}
 use Rattle.mb_usb.specs.Reading.{cable_payload}
 use Rattle.mb_usb.specs.Under.{left_of, head_of, is_of_cable, taken_of, packet_after, packet_behind, is_rested}
 use Rattle.mb_usb.specs.Hands.{Hands}
-use Rattle.mb_usb.specs.State.{CableState, IsBehind, owed_by, owed_alone}
+use Rattle.mb_usb.specs.State.{is_unbroken, CableState, IsBehind, owed_by, owed_alone}
 use Rattle.mb_usb.specs.Cables.{cable_so_far, port_by, usb, only_cable, whole_of, CableHolds, CableStands, CableTells, CableAllTold}
 use Rattle.mb_usb.proofs.CablesLaw.{only_low, only_law, only-payload}
 use Rattle.mb_usb.proofs.Steps.{same-undue, step-due, step-pass, step-carry, step-none}
 use Rattle.mb_usb.proofs.HandsLemmas.{packet_behind-offset, hands-end}
-use Rattle.mb_usb.proofs.ReadLemmas.{rested-after, hands-rested, owed-reader, owed_by-bound}
+use Rattle.mb_usb.proofs.ReadLemmas.{rested-after, hands-rested, unbroken-after, unbroken-behind, owed-reader, owed_by-bound}
 use Rattle.mb_usb.proofs.EachCable.{carried-by}
 use Rattle.mb_usb.proofs.UsbReaderLaw.{taken-from}
 
@@ -173,18 +173,21 @@ partial-is was c p r result e taken bytes told h =
 pub pass-behind : (p q t : Packet) (r : State) (b : ℕ) → IsBehind p r → q ≡ record p { due = None } → t ≡ packet_after q b → IsBehind t r
 pass-behind p q t r b h same after = record {
   rested = ap is_rested after ∙ rested-after q b;
+  unbroken = ap (λ (z : Packet). is_unbroken z.due) after ∙ unbroken-after q b;
   low = omega (arith, h.low, ap (λ (z : Packet). z.offset) same, ap (λ (z : Packet). z.offset) after);
 }
 
 pub carry-behind : (p t : Packet) (r s : State) (input left : List ℕ) (told : List Told) → IsBehind p r → Hands p t r s input left told → s.offset ≡ t.offset → IsBehind t s
 carry-behind p t r s input left told h hands at = record {
   rested = hands-rested p t r s input left told hands h.rested;
+  unbroken = ap (λ (z : Packet). is_unbroken z.due) hands.packet ∙ unbroken-behind p hands.taken h.unbroken;
   low = omega arith;
 }
 
 pub undue-behind : (p q : Packet) (r : State) → IsBehind p r → q ≡ record p { due = None } → IsBehind q r
 undue-behind p q r h same = record {
   rested = ap is_rested same;
+  unbroken = ap (λ (z : Packet). is_unbroken z.due) same;
   low = omega (arith, h.low, ap (λ (z : Packet). z.offset) same);
 }
 

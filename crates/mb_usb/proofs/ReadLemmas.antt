@@ -1,5 +1,5 @@
 -- What a call keeps true of the packets and of each cable's reader, and by what callers' loops end.
-use Rattle.std.proofs.Common.{◌≡◌, ℕ, ◌+◌, ◌*◌, ◌/◌, ◌%◌, ◌<◌, ◌≤◌, ◌≢◌, Bool, true, false, ◌||◌, ◌==◌, nat_le, if◌then◌else◌, Option, Some, None, is_none, List, [], ◌∷◌, length, set, drop, get_or, refl, sym, ◌∙◌, ap, ap₂, subst, arith}
+use Rattle.std.proofs.Common.{◌≡◌, ℕ, ◌+◌, ◌-◌, ◌*◌, ◌/◌, ◌%◌, ◌<◌, ◌≤◌, ◌≢◌, Bool, true, false, ◌||◌, ◌==◌, nat_le, if◌then◌else◌, Option, Some, None, is_none, List, [], ◌∷◌, length, set, drop, get_or, refl, sym, ◌∙◌, ap, ap₂, subst, arith}
 use Rattle.std.proofs.lemmas.List.{get_or-set_same, get_or-set_other, get_or_default, length-drop}
 use Rattle.std.specs.Prelude.{OnSome}
 use Rattle.std.proofs.lemmas.Bool.Decides.{nat_tests}
@@ -14,7 +14,9 @@ use Rattle.mb_usb.specs.declared.under.Under.TheVariants.{Between, One, Two, Thr
 use Rattle.mb_usb.specs.declared.under.Packet.{Packet}
 use Rattle.mb_usb.specs.Under.{left_of, head_of, note_at, under_after, packet_after, packet_behind, is_rested}
 use Rattle.mb_usb.specs.Hands.{Hands}
-use Rattle.mb_usb.specs.State.{reader_at, owed_by, owed_of, AreBehind}
+use Rattle.mb_message.specs.declared.note.NoteKind.TheVariants.{ReservedCin, CinMismatch}
+use Rattle.mb_usb.specs.Reading.{suits_cin}
+use Rattle.mb_usb.specs.State.{is_unbroken, reader_at, owed_by, owed_of, AreBehind}
 use Rattle.mb_usb.proofs.HandsLemmas.{packet_behind-offset, hands-end}
 
 -- A note is due only where no byte of the packet under way is still carried.
@@ -39,6 +41,30 @@ rested-after p b = rested-by p.under b p.offset
 pub rested-behind : (p : Packet) (bs : List ℕ) → is_rested p ≡ true → is_rested (packet_behind p bs) ≡ true
 rested-behind p [] h = h
 rested-behind p (b ∷ bs) h = rested-behind (packet_after p b) bs (rested-after p b)
+
+-- A note of a packet is none of a broken message.
+
+reserved-unbroken : (t : Bool) (at : ℕ) → is_unbroken (if t then Some (record { kind = ReservedCin; at = at }) else None) ≡ true
+reserved-unbroken true at = refl
+reserved-unbroken false at = refl
+
+mismatch-unbroken : (t u : Bool) (at : ℕ) → is_unbroken (if t then None else (if u then None else Some (record { kind = CinMismatch; at = at }))) ≡ true
+mismatch-unbroken true u at = refl
+mismatch-unbroken false true at = refl
+mismatch-unbroken false false at = refl
+
+unbroken-by : (u : Under) (b at : ℕ) → is_unbroken (note_at u b at) ≡ true
+unbroken-by Between b at = reserved-unbroken (nat_le (b % 16) 1) at
+unbroken-by (One h) b at = refl
+unbroken-by (Two h a) b at = refl
+unbroken-by (Three h a b) c at = mismatch-unbroken (nat_le (h % 16) 1) (suits_cin (h % 16) a b c) (at - 3)
+
+pub unbroken-after : (p : Packet) (b : ℕ) → is_unbroken (packet_after p b).due ≡ true
+unbroken-after p b = unbroken-by p.under b p.offset
+
+pub unbroken-behind : (p : Packet) (bs : List ℕ) → is_unbroken p.due ≡ true → is_unbroken (packet_behind p bs).due ≡ true
+unbroken-behind p [] h = h
+unbroken-behind p (b ∷ bs) h = unbroken-behind (packet_after p b) bs (unbroken-after p b)
 
 -- What is owed.
 

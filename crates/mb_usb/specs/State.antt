@@ -5,8 +5,10 @@
 --   reader_at rs c       what the reader of a cable keeps
 --   owed s               1 where something that takes no byte may be told next, else 0
 --   AreBehind p rs       no cable's reader stands beyond the packets
-use Rattle.std.specs.Prelude.{ℕ, ◌/◌, ◌<◌, ◌≤◌, ◌≡◌, true, List, Option, Some, None, ◌==◌, if◌then◌else◌, get_or}
+use Rattle.std.specs.Prelude.{ℕ, ◌/◌, ◌<◌, ◌≤◌, ◌≡◌, Bool, true, not, List, [], ◌∷◌, Option, Some, None, ◌==◌, if◌then◌else◌, get_or}
 use Rattle.mb_message.specs.declared.note.Note.{Note}
+use Rattle.mb_stream.specs.Told.{Notes}
+use Rattle.mb_din.specs.Reader.{breaks}
 use Rattle.mb_din.specs.State as din
 use Rattle.mb_din.specs.State.{State}
 use Rattle.mb_usb.specs.declared.under.Packet.{Packet}
@@ -46,6 +48,12 @@ owed_alone cable p r = owed_by p.due (if is_of_cable cable p.under then 1 else 0
 abbrev pub owed_one : CableState → ℕ
 owed_one s = owed_alone s.cable s.packet s.reader
 
+-- a note of a packet is none of a broken message
+abbrev pub is_unbroken : Option Note → Bool
+is_unbroken None = true
+is_unbroken (Some n) = not (breaks (Notes n.at n.kind ∷ []))
+
 pub record IsBehind (p : Packet) (r : State) : Type 0 where
   pub rested : is_rested p ≡ true
+  pub unbroken : is_unbroken p.due ≡ true
   pub low : r.offset ≤ p.offset

@@ -4,7 +4,7 @@ ghost use Rattle.std.specs.Prelude.{◌≡◌, ◌+◌, ◌*◌, ◌%◌, ◌<�
 ghost use Rattle.mb_stream.specs.Groups.{last_of};
 ghost use Rattle.mb_stream.specs.Told.{Known, at_end};
 ghost use Rattle.mb_din.specs.Turn.{answer};
-ghost use Rattle.mb_din.specs.Reader.{IsLongest};
+ghost use Rattle.mb_din.specs.Reader.{IsLongest, breaks, StatusNext};
 ghost use Rattle.mb_usb.specs.Under.{left_of};
 ghost use Rattle.mb_din.specs.State.{State, fresh};
 ghost use Rattle.mb_ports.specs.OnePort.{TellsOne, AllToldOne};
@@ -70,6 +70,9 @@ impl CableReader {
         ensures longest { IfSome result (IsLongest (take (left_of self.new.packet.under) input.new.now)) }
         ensures none { IfNone result (input.new.now ≡ []) }
 
+        // What a status breaks is told of while the status still stands in the input.
+        ensures before { breaks (answer result) ≡ true → StatusNext input.new.now }
+
         // A caller's loop ends by this.
         ensures progress { OnSome result (2 * length input.new.now + owed_one self.new < 2 * length input.old.now + owed_one self.old) }
     {
@@ -111,6 +114,7 @@ fn read_cable<'a>(
     ensures behind { IsBehind packet.new din.new }
     ensures end { packet.new.offset + length input.new.now ≡ packet.old.offset + length input.old.now }
     ensures longest { IfSome result (IsLongest (take (left_of packet.new.under) input.new.now)) }
+    ensures before { breaks (answer result) ≡ true → StatusNext input.new.now }
     ensures none { IfNone result (input.new.now ≡ []) }
     ensures progress { OnSome result (2 * length input.new.now + owed_alone own packet.new din.new < 2 * length input.old.now + owed_alone own packet.old din.old) }
 {

@@ -1,11 +1,12 @@
 //! Packets that stand whole in the input, taken or passed over in one go: nearly all do, and byte by byte each costs more than twice
 //! the time.
 
-ghost use Rattle.std.specs.Prelude.{◌≡◌, ◌≢◌, ◌+◌, ◌/◌, ◌%◌, ◌<◌, ◌≤◌, ◌^◌, false, None, [], ◌∷◌, ℕ, length, OnSome, IfNone};
+ghost use Rattle.std.specs.Prelude.{◌≡◌, ◌≢◌, ◌↔◌, ◌+◌, ◌/◌, ◌%◌, ◌<◌, ◌≤◌, ◌^◌, not, ◌&&◌, ◌==◌, nat_lt, true, false, None, [], ◌∷◌, ℕ, length, OnSome, IsSome, IfNone};
 ghost use Rattle.mb_din.specs.Turn.{answer};
+ghost use Rattle.mb_din.specs.Reader.{breaks};
 ghost use Rattle.std.specs.Bool.{OnTrue};
 ghost use Rattle.mb_usb.specs.Under.{is_of_cable};
-ghost use Rattle.mb_usb.specs.Whole.{WholeBytes, WholePacket, PassedOver};
+ghost use Rattle.mb_usb.specs.Whole.{WholeBytes, WholePacket, PassedOver, is_between, is_at_once, is_packet_at_once};
 
 use crate::under::{Packet, Under};
 use mb_din::DinReader;
@@ -25,7 +26,9 @@ pub fn take_packet<'a>(
     requires early { packet.old.offset + length input.old.now < 2 ^ 63 }
     requires behind { din.old.offset ≤ packet.old.offset }
     ensures whole { OnSome result (WholePacket own packet.old packet.new din.old din.new input.old.now input.new.now (answer result)) }
+    ensures when { IsSome result ↔ (is_packet_at_once own packet.old din.old input.old.now ≡ true) }
     ensures some { OnSome result (answer result ≡ [] → ⊥) }
+    ensures unbroken { breaks (answer result) ≡ false }
     ensures packet { IfNone result (packet.new ≡ packet.old) }
     ensures reader { IfNone result (din.new ≡ din.old) }
     ensures input { IfNone result (input.new.now ≡ input.old.now) }
@@ -52,7 +55,9 @@ fn take_bytes<'a>(number: u8, at: u64, bytes: &'a [u8], din: &mut DinReader) -> 
     requires place { din.old.offset ≤ at }
     requires early { at + 3 < 2 ^ 63 }
     ensures whole { OnSome result (WholeBytes number bytes.now at din.old din.new (answer result)) }
+    ensures when { IsSome result ↔ (is_at_once number din.old bytes.now ≡ true) }
     ensures some { OnSome result (answer result ≡ [] → ⊥) }
+    ensures unbroken { breaks (answer result) ≡ false }
     ensures reader { IfNone result (din.new ≡ din.old) }
 {
     let [first, second, third] = bytes else {
@@ -103,6 +108,7 @@ pub fn pass_over<'a>(own: u8, packet: &mut Packet, byte: u8, rest: &'a [u8]) -> 
 /// Whether a packet of another cable begins with this byte, and nothing is remarked of it there.
 #[inline(always)]
 fn is_others(own: u8, under: Under, head: u8) -> bool
+    ensures when { result ≡ (is_between under && not (head / 16 == own) && nat_lt 1 (head % 16)) }
     ensures between { OnTrue result (under ≡ Under.Between) }
     ensures other { OnTrue result (head / 16 ≢ own) }
     ensures carries { OnTrue result (1 < head % 16) }
