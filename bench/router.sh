@@ -2,9 +2,9 @@
 # Times the router: 144,000 marks of 16 sources over 16 outs, all routed, a third of them inside System Exclusive, once with
 # dumps of 3 marks, where next to nothing is held, and once with dumps of 1,000, where up to 15,000 marks are held. The cost a
 # mark must not grow with what is held: the second may not take over twice the time of the first.
-# Run it after `rt test` in crates/mb_merge, which builds the tests.
-cd "$(dirname "$0")/../crates/mb_merge" || exit 1
-[ -x out/mb_merge_tests ] || { echo "run 'rt test' in crates/mb_merge first"; exit 1; }
+# Run it after `rt test` in crates/mb_calls, which builds the tests.
+cd "$(dirname "$0")/../crates/mb_calls" || exit 1
+[ -x out/mb_calls_tests ] || { echo "run 'rt test' in crates/mb_calls first"; exit 1; }
 
 # the least of ten runs, in microseconds
 least() {
@@ -12,7 +12,7 @@ least() {
   for _ in 1 2 3 4 5 6 7 8 9 10; do
     local start end
     start=$(date +%s%N)
-    out/mb_merge_tests "tests::$1" >/dev/null || exit 1
+    out/mb_calls_tests "merge::$1" >/dev/null || exit 1
     end=$(date +%s%N)
     local took=$(((end - start) / 1000))
     if [ "$best" -eq 0 ] || [ "$took" -lt "$best" ]; then best=$took; fi

@@ -1,60 +1,102 @@
 //! The byte line's reader and writer.
 
+ghost use Rattle.std.specs.Prelude.{◌≡◌, ◌+◌, ◌<◌, ◌^◌, length};
+
+use crate::text::{Text, put_seen};
 use mb_din::{DinReader, DinWriter};
-use mb_message::{Buf, Ev, Note, NoteKind, Rt, Seen, Short};
+use mb_message::{Buf, Ev, Rt, Short};
 use std::test::Fail;
 
-#[test]
-fn a_clock_and_running_status(rt: HostRuntime) -> Result<(), Fail> {
+/// Bytes of a line, and what they tell.
+const TOLD: &[(&[u8], &str)] = &[
+    (
+        &[0x90, 0xf8, 0x3c, 0x64, 0x40],
+        "0 rt F8\n0 short 90 3C 64\nnote 4 truncated\n",
+    ),
+    (
+        &[0xf0, 1, 2, 0xf6, 0x3c],
+        "0 open\n0 data 01\n0 data 02\n0 abort\n0 short F6\nnote 4 stray-data\n",
+    ),
+    (
+        &[0xf0, 1, 2, 0xf8, 3, 0xf7],
+        "0 open\n0 data 01\n0 data 02\n0 rt F8\n0 data 03\n0 end\n",
+    ),
+];
+
+fn read_piece(reader: &mut DinReader, piece: &[u8], text: &mut Text)
+    requires { reader.old.offset + length piece.now < 2 ^ 63 }
+    ensures { reader.new.offset ≡ reader.old.offset + length piece.now }
+{
+    let mut rest = piece;
+    'told: while let Some(seen) = reader.next(&mut rest) {
+        put_seen(0, seen, text);
+    }
+}
+
+fn told_cut_at(bytes: &[u8], cut: usize) -> Text
+    requires { length bytes.now < 2 ^ 63 }
+{
     let mut reader = DinReader::new();
-    let mut input: &[u8] = &[0x90, 0xf8, 0x3c, 0x64, 0x40];
-    let clock = Rt::new(0xf8).ok_or("a clock")?;
-    assert_eq!(rt; reader.next(&mut input), Some(Seen::Ev(Ev::Rt(clock))));
-    let note = Short::new(0x90, 0x3c, 0x64).ok_or("a note")?;
-    assert_eq!(rt; reader.next(&mut input), Some(Seen::Ev(Ev::Short(note))));
-    assert!(rt; reader.may_run());
-    assert_eq!(rt; reader.next(&mut input), None);
-    assert!(rt; !reader.may_run());
-    let unfinished = Note {
-        kind: NoteKind::Truncated,
-        at: 4,
-    };
-    assert_eq!(rt; reader.finish(), Some(Seen::Note(unfinished)));
-    assert_eq!(rt; reader.finish(), None);
-    Ok(())
+    let mut text = Text::new();
+    let (front, back) = bytes.split_at(bytes.len().min(cut));
+    read_piece(&mut reader, front, &mut text);
+    read_piece(&mut reader, back, &mut text);
+    if let Some(seen) = reader.finish() {
+        put_seen(0, seen, &mut text);
+    }
+    text
 }
 
 #[test]
-fn a_broken_sysex_and_a_resumed_status(rt: HostRuntime) -> Result<(), Fail> {
-    let mut reader = DinReader::new();
-    let mut input: &[u8] = &[0xf0, 1, 2, 0xf6];
-    assert_eq!(rt; reader.next(&mut input), Some(Seen::Ev(Ev::Open)));
-    assert!(rt; reader.in_sysex());
-    assert_eq!(rt; reader.next(&mut input), Some(Seen::Ev(Ev::Run(&[1, 2]))));
-    assert_eq!(rt; reader.next(&mut input), Some(Seen::Ev(Ev::Abort)));
-    assert!(rt; !reader.in_sysex() && input.len() == 1);
-    let tune = Short::new(0xf6, 0, 0).ok_or("a tune request")?;
-    assert_eq!(rt; reader.next(&mut input), Some(Seen::Ev(Ev::Short(tune))));
-    reader.resume(0xc1);
-    assert!(rt; reader.may_run());
-    let mut input: &[u8] = &[5];
-    let program = Short::new(0xc1, 5, 0).ok_or("a program change")?;
-    assert_eq!(rt; reader.next(&mut input), Some(Seen::Ev(Ev::Short(program))));
-    Ok(())
+fn a_line_is_read_cut_at_each_place(rt: HostRuntime) {
+    for (bytes, text) in TOLD {
+        for cut in 0..=bytes.len() {
+            assert!(rt;
+                told_cut_at(bytes, cut).as_slice() == text.as_bytes(),
+                "{bytes:?} at {cut}"
+            );
+        }
+    }
 }
 
 #[test]
-fn a_placed_byte_has_its_offset(rt: HostRuntime) -> Result<(), Fail> {
+fn a_reader_is_placed_and_resumed(rt: HostRuntime) {
     let mut reader = DinReader::new();
+    let mut text = Text::new();
     reader.place(9);
-    let mut input: &[u8] = &[0x3c];
-    let stray = Note {
-        kind: NoteKind::StrayData,
-        at: 9,
-    };
-    assert_eq!(rt; reader.next(&mut input), Some(Seen::Note(stray)));
-    assert_eq!(rt; reader.next(&mut input), None);
-    Ok(())
+    read_piece(&mut reader, &[0x3c, 0xf0], &mut text);
+    assert!(rt; reader.in_sysex() && !reader.may_run());
+    if let Some(seen) = reader.finish() {
+        put_seen(0, seen, &mut text);
+    }
+    reader.resume(0xc1);
+    assert!(rt; reader.may_run() && !reader.in_sysex());
+    read_piece(&mut reader, &[5], &mut text);
+    assert!(rt;
+        text.as_slice() == b"note 9 stray-data\n0 open\n0 abort\n0 short C1 05\n".as_slice()
+    );
+}
+
+#[test]
+fn what_stands_whole_is_read_in_one_go(rt: HostRuntime) {
+    let mut reader = DinReader::new();
+    let mut text = Text::new();
+    assert!(rt; reader.read_two(1, 0xc1, 0x80).is_none());
+    if let Some(seen) = reader.read_two(1, 0xc1, 5) {
+        put_seen(0, seen, &mut text);
+    }
+    if let Some(seen) = reader.read_three(5, 0x90, 0x3c, 0x64) {
+        put_seen(0, seen, &mut text);
+    }
+    put_seen(0, reader.read_realtime(9, 0xf8), &mut text);
+    assert!(rt; reader.read_run(13, &[1, 2, 3]).is_none());
+    read_piece(&mut reader, &[0xf0], &mut text);
+    if let Some(seen) = reader.read_run(17, &[1, 2, 3]) {
+        put_seen(0, seen, &mut text);
+    }
+    let whole =
+        b"0 short C1 05\n0 short 90 3C 64\n0 rt F8\n0 open\n0 data 01\n0 data 02\n0 data 03\n";
+    assert!(rt; text.as_slice() == whole.as_slice());
 }
 
 #[test]
@@ -71,25 +113,9 @@ fn running_status_and_a_sysex_are_written(rt: HostRuntime) -> Result<(), Fail> {
     assert!(rt; writer.in_sysex());
     writer.put(Ev::End, &mut out);
     writer.finish(&mut out);
-    assert_eq!(rt;
-        out.as_slice(),
-        [0x90, 0x3c, 0x64, 0xf8, 0x3c, 0x64, 0xf0, 1, 2, 0xf7].as_slice()
+    assert!(rt;
+        out.as_slice() == [0x90, 0x3c, 0x64, 0xf8, 0x3c, 0x64, 0xf0, 1, 2, 0xf7].as_slice()
     );
-    Ok(())
-}
-
-#[test]
-fn a_clock_cuts_a_run(rt: HostRuntime) -> Result<(), Fail> {
-    let mut reader = DinReader::new();
-    let mut input: &[u8] = &[0xf0, 1, 2, 0xf8, 3, 0xf7];
-    let clock = Rt::new(0xf8).ok_or("a clock")?;
-    assert_eq!(rt; reader.next(&mut input), Some(Seen::Ev(Ev::Open)));
-    assert_eq!(rt; reader.next(&mut input), Some(Seen::Ev(Ev::Run(&[1, 2]))));
-    assert_eq!(rt; reader.next(&mut input), Some(Seen::Ev(Ev::Rt(clock))));
-    assert_eq!(rt; reader.next(&mut input), Some(Seen::Ev(Ev::Run(&[3]))));
-    assert_eq!(rt; reader.next(&mut input), Some(Seen::Ev(Ev::End)));
-    assert_eq!(rt; reader.next(&mut input), None);
-    assert_eq!(rt; reader.finish(), None);
     Ok(())
 }
 
@@ -105,39 +131,6 @@ fn each_status_and_a_broken_sysex_are_written(rt: HostRuntime) -> Result<(), Fai
     writer.put(Ev::Abort, &mut out);
     assert!(rt; !writer.in_sysex());
     writer.put(Ev::Short(program), &mut out);
-    assert_eq!(rt;
-        out.as_slice(),
-        [0xc1, 5, 0xc1, 5, 0xf0, 7, 0xc1, 5].as_slice()
-    );
-    Ok(())
-}
-
-#[test]
-fn what_stands_whole_is_read_in_one_go(rt: HostRuntime) -> Result<(), Fail> {
-    let program = Short::new(0xc1, 5, 0).ok_or("a program change")?;
-    let on = Short::new(0x90, 0x3c, 0x64).ok_or("a note")?;
-    let clock = Rt::new(0xf8).ok_or("a clock")?;
-    let mut reader = DinReader::new();
-    assert_eq!(rt;
-        reader.read_two(1, 0xc1, 5),
-        Some(Seen::Ev(Ev::Short(program)))
-    );
-    assert_eq!(rt; reader.read_two(5, 0xc1, 0x80), None);
-    assert_eq!(rt;
-        reader.read_three(5, 0x90, 0x3c, 0x64),
-        Some(Seen::Ev(Ev::Short(on)))
-    );
-    assert!(rt; reader.may_run());
-    assert_eq!(rt; reader.read_realtime(9, 0xf8), Seen::Ev(Ev::Rt(clock)));
-    assert_eq!(rt; reader.read_run(13, &[1, 2, 3]), None);
-    reader.place(13);
-    let mut open: &[u8] = &[0xf0];
-    assert_eq!(rt; reader.next(&mut open), Some(Seen::Ev(Ev::Open)));
-    assert_eq!(rt;
-        reader.read_run(17, &[1, 2, 3]),
-        Some(Seen::Ev(Ev::Run(&[1, 2, 3])))
-    );
-    assert_eq!(rt; reader.read_three(21, 0x90, 0x3c, 0x64), None);
-    assert!(rt; reader.in_sysex());
+    assert!(rt; out.as_slice() == [0xc1, 5, 0xc1, 5, 0xf0, 7, 0xc1, 5].as_slice());
     Ok(())
 }

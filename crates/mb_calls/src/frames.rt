@@ -1,7 +1,6 @@
 //! Frames, cut at every place, written and read byte by byte.
 
 use mb_frames::{Frames, Part, put_frame};
-use std::alloc::AllocError;
 use std::test::Fail;
 
 /// A part, its bytes one by one.
@@ -12,19 +11,30 @@ enum Told {
     End,
 }
 
-fn read(frames: &mut Frames, mut piece: &[u8], told: &mut Vec<Told>) -> Result<(), AllocError> {
+/// Whether this part comes next.
+fn comes(told: Told, expected: &mut &[Told]) -> bool {
+    let Some((next, rest)) = expected.split_first() else {
+        return false;
+    };
+    *expected = rest;
+    *next == told
+}
+
+/// Whether the parts of a piece come next.
+fn reads(frames: &mut Frames, mut piece: &[u8], expected: &mut &[Told]) -> bool {
+    let mut all = true;
     while let Some(part) = frames.next(&mut piece) {
         match part {
-            Part::Begin(length) => told.push(Told::Begin(length))?,
+            Part::Begin(length) => all &= comes(Told::Begin(length), expected),
             Part::Bytes(bytes) => {
                 for byte in bytes {
-                    told.push(Told::Byte(*byte))?;
+                    all &= comes(Told::Byte(*byte), expected);
                 }
             }
-            Part::End => told.push(Told::End)?,
+            Part::End => all &= comes(Told::End, expected),
         }
     }
-    Ok(())
+    all
 }
 
 /// Bytes, their parts, and whether they stop inside a frame.
@@ -53,18 +63,19 @@ const PARTS: &[(&[u8], &[Told], bool)] = &[
 ];
 
 #[test]
-fn parts_of_lists_cut_at_every_place(rt: HostRuntime) -> Result<(), Fail> {
+fn parts_of_lists_cut_at_every_place(rt: HostRuntime) {
     for (bytes, expected, partial) in PARTS {
         for cut in 0..=bytes.len() {
             let mut frames = Frames::new();
-            let mut told = Vec::new(rt.alloc());
-            read(&mut frames, &bytes[..cut], &mut told)?;
-            read(&mut frames, &bytes[cut..], &mut told)?;
-            assert_eq!(rt; told.as_slice(), *expected, "{bytes:?} at {cut}");
-            assert_eq!(rt; frames.partial(), *partial, "{bytes:?} at {cut}");
+            let mut left = *expected;
+            let read = reads(&mut frames, &bytes[..cut], &mut left)
+                && reads(&mut frames, &bytes[cut..], &mut left);
+            assert!(rt;
+                read && left.is_empty() && frames.partial() == *partial,
+                "{bytes:?} at {cut}"
+            );
         }
     }
-    Ok(())
 }
 
 #[test]
@@ -72,39 +83,32 @@ fn the_longest_frame(rt: HostRuntime) -> Result<(), Fail> {
     let bytes = vec![in rt.alloc(); 0xffu8; 65_537]?;
     let mut piece = bytes.as_slice();
     let mut frames = Frames::new();
-    assert_eq!(rt; frames.next(&mut piece), Some(Part::Begin(65_535)));
+    assert!(rt; matches!(frames.next(&mut piece), Some(Part::Begin(65_535))));
     assert!(rt;
         matches!(frames.next(&mut piece), Some(Part::Bytes(content)) if content.len() == 65_535)
     );
     assert!(rt; !frames.partial());
-    assert_eq!(rt; frames.next(&mut piece), Some(Part::End));
+    assert!(rt; matches!(frames.next(&mut piece), Some(Part::End)));
     assert!(rt; frames.next(&mut piece).is_none());
     Ok(())
 }
 
 #[test]
-fn written_frames(rt: HostRuntime) -> Result<(), Fail> {
+fn written_frames(rt: HostRuntime) {
     let mut out = mb_message::Buf::new();
     put_frame(&[], &mut out);
     put_frame(&[7, 8], &mut out);
     put_frame(&[9; 300], &mut out);
-    assert_eq!(rt;
-        &out.as_slice()[..9],
-        [0, 0, 0, 2, 7, 8, 1, 44, 9].as_slice()
-    );
-    assert_eq!(rt; out.len(), 308);
-    Ok(())
+    assert!(rt; out.as_slice().starts_with(&[0, 0, 0, 2, 7, 8, 1, 44, 9]) && out.len() == 308);
 }
 
 #[test]
-fn a_frame_by_single_bytes(rt: HostRuntime) -> Result<(), Fail> {
+fn a_frame_by_single_bytes(rt: HostRuntime) {
     let mut frames = Frames::new();
-    assert_eq!(rt; frames.length(1), None);
-    assert_eq!(rt; frames.length(2), Some(258));
-    assert_eq!(rt; frames.room(), 258);
+    assert!(rt; frames.length(1).is_none());
+    assert!(rt; frames.length(2) == Some(258) && frames.room() == 258);
     frames.pass(258);
     assert!(rt; frames.at_end() && frames.room() == 0);
     frames.leave();
     assert!(rt; !frames.at_end());
-    Ok(())
 }

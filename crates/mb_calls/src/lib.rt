@@ -3,15 +3,23 @@
 #![tactic(auto)]
 
 #[cfg(test)]
+mod clock;
+#[cfg(test)]
 mod denote;
 #[cfg(test)]
 mod din;
 #[cfg(test)]
 mod frames;
 #[cfg(test)]
+mod merge;
+#[cfg(test)]
 mod message;
 #[cfg(test)]
 mod outside;
+#[cfg(test)]
+mod print;
+#[cfg(test)]
+mod text;
 #[cfg(test)]
 mod usb_reader;
 #[cfg(test)]

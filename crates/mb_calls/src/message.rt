@@ -20,12 +20,16 @@ fn lengths_of_short_messages(rt: HostRuntime) -> Result<(), Fail> {
     ];
     for (status, length) in table {
         let short = Short::new(status, 0, 0).ok_or("a status")?;
-        assert_eq!(rt; short.len(), length, "at {status:x}");
-        assert_eq!(rt; data_len(status), Some(length - 1), "at {status:x}");
+        assert!(rt;
+            short.len() == length && data_len(status) == Some(length - 1),
+            "at {status:x}"
+        );
     }
     for status in [0x00, 0x7f, 0xf0, 0xf4, 0xf5, 0xf7, 0xf8, 0xff] {
-        assert_eq!(rt; data_len(status), None, "at {status:x}");
-        assert!(rt; Short::new(status, 0, 0).is_none(), "at {status:x}");
+        assert!(rt;
+            data_len(status).is_none() && Short::new(status, 0, 0).is_none(),
+            "at {status:x}"
+        );
     }
     Ok(())
 }
@@ -33,23 +37,38 @@ fn lengths_of_short_messages(rt: HostRuntime) -> Result<(), Fail> {
 #[test]
 fn values_keep_their_bytes(rt: HostRuntime) -> Result<(), Fail> {
     let note = Short::new(0x90, 0x3c, 0x64).ok_or("a note")?;
-    assert_eq!(rt;
-        (note.status(), note.data1(), note.data2()),
-        (0x90, 0x3c, 0x64)
-    );
-    assert_eq!(rt; Short::of(0x90, 0x3c, 0x64), note);
-    assert!(rt; Short::new(0x90, 0x80, 0).is_none());
-    assert!(rt;
-        Short::new(0xc0, 5, 1).is_none(),
-        "an unused data byte is 0"
-    );
+    assert!(rt; note.status() == 0x90 && note.data1() == 0x3c && note.data2() == 0x64);
+    assert!(rt; Short::of(0x90, 0x3c, 0x64) == note);
+    // a data byte of 128, and an unused one that isn't 0
+    assert!(rt; Short::new(0x90, 0x80, 0).is_none() && Short::new(0xc0, 5, 1).is_none());
+    for byte in [0xf8, 0xfa, 0xfb, 0xfc, 0xfe, 0xff] {
+        let message = Rt::new(byte).ok_or("a real-time message")?;
+        assert!(rt; message.byte() == byte);
+    }
+    for byte in [0xf7, 0xf9, 0xfd] {
+        assert!(rt; Rt::new(byte).is_none(), "{byte:x}");
+    }
+    Ok(())
+}
+
+#[test]
+fn marks_suit_inside_sysex_or_outside(rt: HostRuntime) -> Result<(), Fail> {
+    let note = Short::new(0x90, 0x3c, 0x64).ok_or("a note")?;
     let clock = Rt::new(0xf8).ok_or("a clock")?;
-    assert_eq!(rt; clock.byte(), 0xf8);
-    assert!(rt; Rt::new(0xf9).is_none() && Rt::new(0xfd).is_none() && Rt::new(0xf7).is_none());
-    assert!(rt; suits(false, Mark::Short(note)) && !suits(true, Mark::Short(note)));
-    assert!(rt;
-        suits(true, Mark::Rt(clock)) && suits(true, Mark::Byte(1)) && !suits(true, Mark::Byte(128))
-    );
-    assert!(rt; !suits(false, Mark::End) && suits(true, Mark::Abort) && !suits(true, Mark::Open));
+    let table = [
+        (Mark::Short(note), true, false),
+        (Mark::Rt(clock), true, true),
+        (Mark::Open, true, false),
+        (Mark::Byte(1), false, true),
+        (Mark::Byte(128), false, false),
+        (Mark::End, false, true),
+        (Mark::Abort, false, true),
+    ];
+    for (mark, outside, inside) in table {
+        assert!(rt;
+            suits(false, mark) == outside && suits(true, mark) == inside,
+            "{mark:?}"
+        );
+    }
     Ok(())
 }

@@ -12,5 +12,3 @@ pub use stamp::stamp_of;
 pub use unwrap::Unwrap;
 
 pub mod laws;
-#[cfg(test)]
-mod tests;

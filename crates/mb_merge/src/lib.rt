@@ -16,5 +16,3 @@ pub use router::{Passed, Router};
 pub use source::Full;
 
 pub mod laws;
-#[cfg(test)]
-mod tests;

@@ -7,6 +7,3 @@ mod lines;
 mod numbers;
 
 pub use lines::{Line, mark_line, note_line};
-
-#[cfg(test)]
-mod tests;

@@ -2,8 +2,8 @@
 
 ghost use Rattle.std.specs.Prelude.{◌<◌};
 
-use crate::row::{ROOM, Row, desk, run, words};
-use mb_top::{LIMIT, bridge};
+use crate::row::{ROOM, Row, desk, run, run_at};
+use mb_top::LIMIT;
 use std::test::Fail;
 
 /// What the row shows, the words, the packets, what must come, and the status.
@@ -222,14 +222,16 @@ const SPECS: &[&str] = &[
 fn a_recording_that_stops_inside_a_packet_is_cut(rt: HostRuntime) -> Result<(), Fail> {
     let packets = &[0x09, 0x90, 0x3c, 0x64, 0x09, 0x90, 0x40, 0x64];
     for end in 5..8 {
-        let args = words(rt.alloc(), &["convert", "usb:0", "din"])?;
-        let mut desk = desk(rt.alloc(), &packets[..end], 512, ROOM)?;
-        assert_eq!(rt; bridge(rt.alloc(), &args, &mut desk), 5, "cut at {end}");
-        assert!(rt;
-            desk.is_written(1, &[0x90, 0x3c, 0x64]),
-            "cut at {end}: output"
-        );
-        assert!(rt; desk.is_written(2, b"input is cut\n"), "cut at {end}: text");
+        let row = Row {
+            shows: "a packet that isn't whole",
+            words: &["convert", "usb:0", "din"],
+            input: &packets[..end],
+            output: &[0x90, 0x3c, 0x64],
+            status: 5,
+        };
+        let mut desk = desk(rt.alloc(), row.input, 512, ROOM)?;
+        run_at(&rt, rt.alloc(), &row, &mut desk, LIMIT)?;
+        assert!(rt; desk.is_written(2, b"input is cut\n"), "cut at {end}");
     }
     Ok(())
 }

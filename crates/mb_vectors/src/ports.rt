@@ -1,79 +1,120 @@
 //! Readers and writers of any port, call by call.
 
+ghost use Rattle.std.specs.Prelude.{◌≡◌, ◌+◌, ◌<◌, ◌^◌, length};
+ghost use Rattle.mb_carrier.specs.Port.{reader_offset};
+
+use arrayvec::ArrayVec;
 use mb_carrier::{PortReader, PortStep, PortWriter, Spec};
-use mb_message::{Buf, Ev, Note, NoteKind, Rt, Short};
+use mb_message::{Buf, Ev, Mark};
+use mb_print::{Line, mark_line, note_line};
 use std::test::Fail;
 
-/// A note, a dump with a clock inside, and a message that is cut, as packets of cable 2.
-const PACKETS: &[u8] = &[
-    0x29, 0x90, 0x3c, 0x64, 0x24, 0xf0, 0x01, 0x02, 0x2f, 0xf8, 0, 0, 0x29, 0x90,
-];
+/// Lines of what a port tells: of a mark its moment and what it is, of a note `note`, its place and its kind.
+type Text = ArrayVec<u8, 1024>;
 
-fn event(moment: u64, ev: Ev<'_>) -> Option<PortStep<'_>> {
-    Some(PortStep::Ev { moment, ev })
+fn put_mark(moment: u64, mark: Mark, text: &mut Text) {
+    let mut line = Line::new();
+    mark_line(moment, mark, &mut line);
+    let _ = text.try_extend_from_slice(line.as_slice());
 }
+
+fn put_step(step: PortStep<'_>, text: &mut Text) {
+    match step {
+        PortStep::Note(note) => {
+            let mut line = Line::new();
+            note_line(note, true, &mut line);
+            let _ = text.try_extend_from_slice(line.as_slice());
+        }
+        PortStep::Ev { moment, ev } => match ev {
+            Ev::Short(short) => put_mark(moment, Mark::Short(short), text),
+            Ev::Rt(message) => put_mark(moment, Mark::Rt(message), text),
+            Ev::Open => put_mark(moment, Mark::Open, text),
+            Ev::Run(bytes) => {
+                for byte in bytes {
+                    put_mark(moment, Mark::Byte(*byte), text);
+                }
+            }
+            Ev::End => put_mark(moment, Mark::End, text),
+            Ev::Abort => put_mark(moment, Mark::Abort, text),
+        },
+    }
+}
+
+fn read_piece(reader: &mut PortReader, piece: &[u8], text: &mut Text)
+    requires early { reader_offset reader.old + length piece.now < 2 ^ 63 }
+    ensures end { reader_offset reader.new ≡ reader_offset reader.old + length piece.now }
+    ensures moment { reader.new.moment ≡ reader.old.moment }
+{
+    let mut rest = piece;
+    'steps: while let Some(step) = reader.next(&mut rest) {
+        put_step(step, text);
+    }
+}
+
+/// What the row shows, the port, its bytes at moment 1250 and at 1251, what they and the finish tell, and whether a packet is cut.
+type Port = (
+    &'static str,
+    &'static str,
+    &'static [u8],
+    &'static [u8],
+    &'static str,
+    bool,
+);
+
+const PORTS: &[Port] = &[
+    (
+        "a note, a dump with a clock inside and a message that is cut",
+        "usb:2",
+        &[0x29, 0x90, 0x3c, 0x64, 0x24, 0xf0, 0x01, 0x02],
+        &[0x2f, 0xf8, 0, 0, 0x29, 0x90],
+        "1250 short 90 3C 64\n1250 open\n1250 data 01\n1250 data 02\n1251 rt F8\n1251 abort\nnote 13 truncated\n",
+        true,
+    ),
+    (
+        "a line is never partial",
+        "din",
+        &[0xf0],
+        &[0x01],
+        "1250 open\n1251 data 01\n1251 abort\n",
+        false,
+    ),
+];
 
 #[test]
 fn a_port_is_read_at_the_moments_that_are_set(rt: HostRuntime) -> Result<(), Fail> {
-    let on = Short::new(0x90, 0x3c, 0x64).ok_or("a note")?;
-    let clock = Rt::new(0xf8).ok_or("a clock")?;
-    let cut = Note {
-        kind: NoteKind::Truncated,
-        at: 13,
-    };
-    let mut reader = PortReader::new(Spec::Usb(2));
-    let mut input = PACKETS;
-    reader.set_moment(1250);
-    assert_eq!(rt; reader.next(&mut input), event(1250, Ev::Short(on)));
-    assert_eq!(rt; reader.next(&mut input), event(1250, Ev::Open));
-    assert_eq!(rt;
-        reader.next(&mut input),
-        event(1250, Ev::Run(&[0x01, 0x02]))
-    );
-    reader.set_moment(1251);
-    assert_eq!(rt; reader.next(&mut input), event(1251, Ev::Rt(clock)));
-    assert_eq!(rt; reader.next(&mut input), event(1251, Ev::Abort));
-    assert_eq!(rt; reader.next(&mut input), None);
-    assert!(rt; reader.partial());
-    assert_eq!(rt; reader.finish(), Some(PortStep::Note(cut)));
-    Ok(())
-}
-
-#[test]
-fn a_line_is_read_and_never_partial(rt: HostRuntime) -> Result<(), Fail> {
-    let mut reader = PortReader::new(Spec::Din);
-    let mut input: &[u8] = &[0xf0, 0x01];
-    assert_eq!(rt; reader.next(&mut input), event(0, Ev::Open));
-    assert_eq!(rt; reader.next(&mut input), event(0, Ev::Run(&[0x01])));
-    assert_eq!(rt; reader.next(&mut input), None);
-    assert!(rt; !reader.partial());
-    assert_eq!(rt; reader.finish(), event(0, Ev::Abort));
+    for (shows, word, first, second, told, partial) in PORTS {
+        let mut reader = PortReader::new(Spec::read(word).ok_or("a port")?);
+        let mut text = Text::new();
+        reader.set_moment(1250);
+        read_piece(&mut reader, first, &mut text);
+        reader.set_moment(1251);
+        read_piece(&mut reader, second, &mut text);
+        assert!(rt; reader.partial() == *partial, "{shows}");
+        if let Some(step) = reader.finish() {
+            put_step(step, &mut text);
+        }
+        assert!(rt; text.as_slice() == told.as_bytes(), "{shows}");
+    }
     Ok(())
 }
 
 #[test]
 fn a_port_is_written(rt: HostRuntime) -> Result<(), Fail> {
-    let mut writer = PortWriter::new(rt.alloc(), Spec::Din)?;
-    let mut out = Buf::new();
-    assert_eq!(rt; writer.longest(), 16);
-    writer.put(0, Ev::Open, &mut out);
-    writer.put(7, Ev::Run(&[0x01]), &mut out);
-    writer.flush(&mut out);
-    assert!(rt; writer.in_sysex());
-    assert!(rt; out.as_slice() == [0xf0, 0x01].as_slice());
-    writer.finish(&mut out);
-    assert!(rt; out.as_slice() == [0xf0, 0x01].as_slice());
-    assert!(rt; !writer.in_sysex());
-
-    let mut writer = PortWriter::new(rt.alloc(), Spec::Usb(2))?;
-    let mut out = Buf::new();
-    writer.put(0, Ev::Open, &mut out);
-    writer.put(7, Ev::Run(&[0x01]), &mut out);
-    writer.flush(&mut out);
-    assert!(rt; writer.in_sysex());
-    assert!(rt; out.as_slice() == [].as_slice());
-    writer.finish(&mut out);
-    assert!(rt; out.as_slice() == [0x2f, 0xf0, 0, 0, 0x2f, 0x01, 0, 0].as_slice());
-    assert!(rt; !writer.in_sysex());
+    let written: [(&str, &[u8], &[u8]); 2] = [
+        ("din", &[0xf0, 0x01], &[0xf0, 0x01]),
+        ("usb:2", &[], &[0x2f, 0xf0, 0, 0, 0x2f, 0x01, 0, 0]),
+    ];
+    for (word, at_once, whole) in written {
+        let spec = Spec::read(word).ok_or("a port")?;
+        let mut writer = PortWriter::new(rt.alloc(), spec)?;
+        let mut out = Buf::new();
+        writer.put(0, Ev::Open, &mut out);
+        writer.put(7, Ev::Run(&[0x01]), &mut out);
+        writer.flush(&mut out);
+        assert!(rt; writer.in_sysex() && writer.longest() == 16, "{word}");
+        assert!(rt; out.as_slice() == at_once, "{word}");
+        writer.finish(&mut out);
+        assert!(rt; !writer.in_sysex() && out.as_slice() == whole, "{word}");
+    }
     Ok(())
 }

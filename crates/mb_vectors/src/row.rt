@@ -54,18 +54,24 @@ pub fn run(
     requires least { 0 < limit }
     requires most { limit ≤ 2 ^ 40 }
 {
-    let args = words(alloc, row.words)?;
     let mut desk = desk(alloc, row.input, piece, ROOM)?;
-    let status = bridge_within(alloc, &args, &mut desk, limit);
-    assert!(rt;
-        status == row.status,
-        "{}: status {status} at pieces of {piece}",
-        row.shows
-    );
-    assert!(rt;
-        desk.is_written(1, row.output),
-        "{}: output at pieces of {piece}",
-        row.shows
-    );
+    run_at(rt, alloc, row, &mut desk, limit)
+}
+
+/// Runs a row at a desk that has its input.
+pub fn run_at(
+    rt: &impl Abort,
+    alloc: Global,
+    row: &Row<'_>,
+    desk: &mut MemoryDesk,
+    limit: u64,
+) -> Result<(), Fail>
+    requires least { 0 < limit }
+    requires most { limit ≤ 2 ^ 40 }
+{
+    let args = words(alloc, row.words)?;
+    let status = bridge_within(alloc, &args, desk, limit);
+    assert!(rt; status == row.status, "{}: status {status}", row.shows);
+    assert!(rt; desk.is_written(1, row.output), "{}: output", row.shows);
     Ok(())
 }

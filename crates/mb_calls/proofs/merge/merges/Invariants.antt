@@ -1,5 +1,5 @@
 use Rattle.mb_merge.specs.Passing.{to_pass}
-use Rattle.mb_merge.proofs.tests.merges.Given as goal
+use Rattle.mb_calls.proofs.merge.merges.Given as goal
 
 abbrev pub decreases-loop-passed : goal.decreases-loop-passed
 decreases-loop-passed g l = to_pass l.router

@@ -1,6 +1,8 @@
+//! The router of marks.
+
 ghost use Rattle.std.specs.Prelude.{◌<◌};
 
-use super::*;
+use mb_merge::{Full, Passed, Router, RouterFault};
 use mb_message::{Mark, Rt, Short};
 use std::alloc::Global;
 use std::process::Abort;

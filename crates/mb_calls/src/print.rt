@@ -1,5 +1,7 @@
-use super::*;
+//! Lines of text.
+
 use mb_message::{Mark, Note, NoteKind, Rt, Short};
+use mb_print::{Line, mark_line, note_line};
 use std::test::Fail;
 
 #[test]

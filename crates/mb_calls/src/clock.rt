@@ -1,4 +1,6 @@
-use super::*;
+//! The clock of BLE-MIDI packets.
+
+use mb_clock::{Unwrap, stamp_of};
 use std::test::Fail;
 
 #[test]
