@@ -57,7 +57,8 @@ pub trait EventReader {
     fn finish(&mut self) -> Option<Seen<'static>>
         ensures spec { spec self.new ≡ spec self.old }
         ensures rests { rests self.new }
-        ensures told { (bytes : List ℕ) → stands self.old bytes (known (spec self.old) bytes) → answer result ≡ end_told (spec self.old) bytes };
+        ensures told { (bytes : List ℕ) → stands self.old bytes (known (spec self.old) bytes) → answer result ≡ end_told (spec self.old) bytes }
+        ensures some { OnSome result (answer result ≡ [] → ⊥) };
 
     /// What is known of some bytes stays known.
     ghost stays: { (r : Self) (bytes more : List ℕ) → IsFront (known (spec r) bytes) (known (spec r) (bytes ++ more)) };

@@ -95,6 +95,7 @@ impl PortReader {
         ensures at { IfSome result (IsAt self.old.moment) }
         ensures rests { ReaderRests self.new }
         ensures told { (bytes : List ℕ) → ReaderStands self.old bytes (known (reader_spec self.old) bytes) → answer (seen_of result) ≡ end_told (reader_spec self.old) bytes }
+        ensures some { OnSome result (answer (seen_of result) ≡ [] → ⊥) }
     {
         match last_seen(&mut self.carrier) {
             Some(seen) => Some(PortStep::at(self.moment, seen)),
@@ -139,6 +140,7 @@ fn last_seen(carrier: &mut ReaderOf) -> Option<Seen<'static>>
     ensures spec { reader_spec_by carrier.new ≡ reader_spec_by carrier.old }
     ensures rests { ReaderRestsBy carrier.new }
     ensures told { (bytes : List ℕ) → ReaderStandsBy carrier.old bytes (known (reader_spec_by carrier.old) bytes) → answer result ≡ end_told (reader_spec_by carrier.old) bytes }
+    ensures some { OnSome result (answer result ≡ [] → ⊥) }
 {
     match carrier {
         ReaderOf::Din(reader) => EventReader::finish(reader),

@@ -200,7 +200,8 @@ pub(crate) fn is_open(progress: Progress) -> bool
 /// What only the end makes known.
 #[inline(always)]
 pub(crate) fn at_end(progress: Progress) -> Option<Seen<'static>>
-    ensures { answer result ≡ told_at_end progress }
+    ensures told { answer result ≡ told_at_end progress }
+    ensures some { OnSome result (answer result ≡ [] → ⊥) }
 {
     match progress {
         Progress::Begun { at, .. } => Some(note(NoteKind::Truncated, at)),

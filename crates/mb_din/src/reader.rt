@@ -176,6 +176,7 @@ impl DinReader {
     /// reader then stands as a fresh one does, for bytes from its present offset on.
     pub fn finish(&mut self) -> Option<Seen<'static>>
         ensures told { (entries : List Entry) → Stands self.old entries (so_far entries) → answer result ≡ at_end (last_of entries) }
+        ensures some { OnSome result (answer result ≡ [] → ⊥) }
         ensures as_fresh { self.new ≡ record fresh { offset = self.old.offset } }
         ensures stands { Stands self.new [] [] }
     {

@@ -84,6 +84,7 @@ impl CableReader {
     pub fn finish(&mut self) -> Option<Seen<'static>>
         ensures cable { self.new.cable ≡ self.old.cable }
         ensures told { (bytes : List ℕ) → CableStands self.old bytes (cable_so_far self.old.cable bytes) → answer result ≡ at_end (last_of (cable_payload self.old.cable bytes)) }
+        ensures some { OnSome result (answer result ≡ [] → ⊥) }
         ensures as_fresh { self.new.reader ≡ record fresh { offset = self.old.reader.offset } }
         ensures packets { self.new.packet ≡ self.old.packet }
     {

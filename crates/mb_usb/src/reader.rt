@@ -85,6 +85,7 @@ impl UsbReader {
         // The same where all was told of the bytes, and other cables were finished since.
         ensures in_turn { (was : UsbState) → reader_at self.old.readers cable ≡ reader_at was.readers cable →
             (bytes : List ℕ) → UsbStands was bytes (all_cables_so_far bytes) → answer result ≡ at_end (last_of (cable_payload cable bytes)) }
+        ensures some { OnSome result (answer result ≡ [] → ⊥) }
         ensures as_fresh { reader_at self.new.readers cable ≡ record fresh { offset = (reader_at self.old.readers cable).offset } }
         ensures others { (c : ℕ) → c ≢ cable → reader_at self.new.readers c ≡ reader_at self.old.readers c }
         ensures packets { self.new.packet ≡ self.old.packet }
