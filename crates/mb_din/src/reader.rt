@@ -185,9 +185,11 @@ impl DinReader {
         told
     }
 
-    /// A channel status, 80 to EF, runs from here on without a byte of its own.
+    /// A channel status, 80 to EF, runs from here on without a byte of its own. No message is begun then and no SysEx open:
+    /// it would be given up untold. `finish` ends either, and tells of it.
     pub fn resume(&mut self, status: u8)
-        requires { is_channel status ≡ true }
+        requires channel { is_channel status ≡ true }
+        requires free { free_now self.old ≡ true }
         ensures offset { self.new.offset ≡ self.old.offset }
         ensures runs { may_run_now self.new ≡ true }
         ensures stands { (entries : List Entry) → Stands self.old entries (so_far entries) → Stands self.new (entries ++ Silent status ∷ []) (so_far entries) }
