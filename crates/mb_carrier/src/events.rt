@@ -47,7 +47,7 @@ pub trait EventReader {
         ensures some { OnSome result (answer result ≡ [] → ⊥) }
         ensures none { IfNone result (input.new.now ≡ []) }
         ensures longest { IfSome result (IsLongest (beside self.new input.new.now)) }
-        ensures before { breaks (answer result) ≡ true → StatusNext input.new.now }
+        ensures before { breaks (answer result) ≡ true → StatusNext input.new.now × rests self.new }
         ensures goes { (bytes : List ℕ) (told : List Known) → stands self.old bytes told → IsFront told (known (spec self.old) (bytes ++ input.old.now)) →
             ReaderGoes (known (spec self.old)) (stands self.new) input.old.now input.new.now (answer result) bytes told }
         ensures all_told { IfNone result ((bytes : List ℕ) (told : List Known) → stands self.old bytes told → IsFront told (known (spec self.old) (bytes ++ input.old.now)) →
