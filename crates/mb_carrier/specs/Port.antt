@@ -5,10 +5,11 @@ use Rattle.mb_stream.specs.Told.{Known}
 use Rattle.mb_din.specs.Writer as din
 use Rattle.mb_usb.specs.Writer as usb
 use Rattle.mb_din.specs.State as din_state
+use Rattle.mb_din.specs.State.{Rests}
 use Rattle.mb_usb.specs.Cables.{CableStands}
 use Rattle.mb_usb.specs.State as usb_state
 use Rattle.mb_usb.specs.Under.{left_of}
-use Rattle.mb_carrier.specs.Line.{LineStands, Rests}
+use Rattle.mb_carrier.specs.Line.{LineStands}
 use Rattle.mb_carrier.specs.declared.spec.Spec.{Spec}
 use Rattle.mb_carrier.specs.declared.spec.Spec.TheVariants as spec
 use Rattle.mb_carrier.specs.declared.writer.WriterOf.{WriterOf}

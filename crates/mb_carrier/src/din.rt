@@ -8,7 +8,8 @@ use mb_message::{Buf, Ev, Seen};
 
 impl EventReader for DinReader {
     ghost use Rattle.mb_din.specs.State as state;
-    ghost use Rattle.mb_carrier.specs.Line.{LineStands, Rests};
+    ghost use Rattle.mb_din.specs.State.{Rests};
+    ghost use Rattle.mb_carrier.specs.Line.{LineStands};
     ghost use Rattle.mb_carrier.specs.declared.spec.Spec.TheVariants.{Din};
     ghost use Rattle.mb_carrier.specs.DinLaws.{known-stays, marks-end, marks-suit};
 

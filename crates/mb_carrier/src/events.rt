@@ -47,7 +47,7 @@ pub trait EventReader {
         ensures some { OnSome result (answer result ≡ [] → ⊥) }
         ensures none { IfNone result (input.new.now ≡ []) }
         ensures longest { IfSome result (IsLongest (beside self.new input.new.now)) }
-        ensures before { breaks (answer result) ≡ true → StatusNext input.new.now }
+        ensures before { breaks (answer result) ≡ true → StatusNext input.new.now × rests self.new }
         ensures goes { (bytes : List ℕ) (told : List Known) → stands self.old bytes told → IsFront told (known (spec self.old) (bytes ++ input.old.now)) →
             ReaderGoes (known (spec self.old)) (stands self.new) input.old.now input.new.now (answer result) bytes told }
         ensures all_told { IfNone result ((bytes : List ℕ) (told : List Known) → stands self.old bytes told → IsFront told (known (spec self.old) (bytes ++ input.old.now)) →
@@ -57,7 +57,8 @@ pub trait EventReader {
     fn finish(&mut self) -> Option<Seen<'static>>
         ensures spec { spec self.new ≡ spec self.old }
         ensures rests { rests self.new }
-        ensures told { (bytes : List ℕ) → stands self.old bytes (known (spec self.old) bytes) → answer result ≡ end_told (spec self.old) bytes };
+        ensures told { (bytes : List ℕ) → stands self.old bytes (known (spec self.old) bytes) → answer result ≡ end_told (spec self.old) bytes }
+        ensures some { OnSome result (answer result ≡ [] → ⊥) };
 
     /// What is known of some bytes stays known.
     ghost stays: { (r : Self) (bytes more : List ℕ) → IsFront (known (spec r) bytes) (known (spec r) (bytes ++ more)) };

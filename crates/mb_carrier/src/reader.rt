@@ -57,8 +57,9 @@ impl PortReader {
     }
 
     /// The next event or note of the bytes that were taken and of the input, which it takes from the front of the input.
-    /// `None` comes where the input is used up and all of it is told. A run is lent from the input, never empty, and the
-    /// longest that stands there.
+    /// What a byte makes known of earlier ones is told while it still stands in the input, and before anything of it is
+    /// kept. `None` comes where the input is used up and all of it is told. A run is lent from the input, never empty, and
+    /// the longest that stands there.
     pub fn next<'a>(&mut self, input: &mut &'a [u8]) -> Option<PortStep<'a>>
         requires early { reader_offset self.old + length input.old.now < 2 ^ 63 }
         ensures spec { reader_spec self.new ≡ reader_spec self.old }
@@ -75,8 +76,9 @@ impl PortReader {
             told ≡ known (reader_spec self.old) (bytes ++ input.old.now)) }
         ensures longest { IfSome result (λ step. IsLongest (beside self.new input.new.now) (seen_in step)) }
 
-        // What a status breaks is told of while the status still stands in the input.
-        ensures before { breaks (answer (seen_of result)) ≡ true → StatusNext input.new.now }
+        // What a status breaks is told of before the status is taken: it still stands in the input, and nothing is begun,
+        // running or open on the port.
+        ensures before { breaks (answer (seen_of result)) ≡ true → StatusNext input.new.now × ReaderRests self.new }
 
         // A caller's loop ends by this.
         ensures progress { OnSome result (2 * length input.new.now + reader_owed self.new < 2 * length input.old.now + reader_owed self.old) }
@@ -95,6 +97,7 @@ impl PortReader {
         ensures at { IfSome result (IsAt self.old.moment) }
         ensures rests { ReaderRests self.new }
         ensures told { (bytes : List ℕ) → ReaderStands self.old bytes (known (reader_spec self.old) bytes) → answer (seen_of result) ≡ end_told (reader_spec self.old) bytes }
+        ensures some { OnSome result (answer (seen_of result) ≡ [] → ⊥) }
     {
         match last_seen(&mut self.carrier) {
             Some(seen) => Some(PortStep::at(self.moment, seen)),
@@ -125,7 +128,7 @@ fn next_seen<'a>(carrier: &mut ReaderOf, input: &mut &'a [u8]) -> Option<Seen<'a
     ensures all_told { IfNone result ((bytes : List ℕ) (told : List Known) → ReaderStandsBy carrier.old bytes told → IsFront told (known (reader_spec_by carrier.old) (bytes ++ input.old.now)) →
         told ≡ known (reader_spec_by carrier.old) (bytes ++ input.old.now)) }
     ensures longest { IfSome result (IsLongest (beside_by carrier.new input.new.now)) }
-    ensures before { breaks (answer result) ≡ true → StatusNext input.new.now }
+    ensures before { breaks (answer result) ≡ true → StatusNext input.new.now × ReaderRestsBy carrier.new }
     ensures progress { OnSome result (2 * length input.new.now + reader_owed_by carrier.new < 2 * length input.old.now + reader_owed_by carrier.old) }
 {
     match carrier {
@@ -139,6 +142,7 @@ fn last_seen(carrier: &mut ReaderOf) -> Option<Seen<'static>>
     ensures spec { reader_spec_by carrier.new ≡ reader_spec_by carrier.old }
     ensures rests { ReaderRestsBy carrier.new }
     ensures told { (bytes : List ℕ) → ReaderStandsBy carrier.old bytes (known (reader_spec_by carrier.old) bytes) → answer result ≡ end_told (reader_spec_by carrier.old) bytes }
+    ensures some { OnSome result (answer result ≡ [] → ⊥) }
 {
     match carrier {
         ReaderOf::Din(reader) => EventReader::finish(reader),

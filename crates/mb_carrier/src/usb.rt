@@ -7,10 +7,10 @@ use mb_message::{Buf, Ev, Seen};
 use mb_usb::{CableReader, UsbWriter};
 
 impl EventReader for CableReader {
+    ghost use Rattle.mb_din.specs.State.{Rests};
     ghost use Rattle.mb_usb.specs.State as state;
     ghost use Rattle.mb_usb.specs.Under.{left_of};
     ghost use Rattle.mb_usb.specs.Cables.{CableStands};
-    ghost use Rattle.mb_carrier.specs.Line.{Rests};
     ghost use Rattle.mb_carrier.specs.declared.spec.Spec.TheVariants.{Usb};
     ghost use Rattle.mb_carrier.specs.UsbLaws.{known-stays, marks-end, marks-suit};
 

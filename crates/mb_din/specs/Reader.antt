@@ -7,7 +7,7 @@
 --   IsFrontTaken ..         a call takes a front of its input
 --   IsLongest left seen     a run is the longest that stands side by side in the input
 --   breaks told             a message that was begun, or a SysEx, is broken by the next status
---   StatusNext left         and that status still stands in the input
+--   StatusNext left         and that status still stands in the input, where nothing of it is kept (`Rests`)
 --   TakesWhole was now ..   a piece was taken whole, and one thing told of it
 use Rattle.std.specs.Prelude.{◌≡◌, ℕ, ◌+◌, ◌<◌, ◌≤◌, Bool, true, false, ◌&&◌, List, [], ◌∷◌, ◌++◌, map, length}
 use Rattle.mb_message.specs.Bytes.{is_data, is_channel}

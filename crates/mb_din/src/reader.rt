@@ -7,7 +7,7 @@ ghost use Rattle.mb_stream.specs.Groups.{last_of, is_sysex};
 ghost use Rattle.mb_stream.specs.Told.{Known, at_end, may_run};
 ghost use Rattle.mb_stream.specs.Reading.{so_far};
 ghost use Rattle.mb_stream.specs.Working.{RisesFrom};
-ghost use Rattle.mb_din.specs.State.{owed, open_now, free_now, may_run_now, fresh, is_sound};
+ghost use Rattle.mb_din.specs.State.{owed, open_now, free_now, may_run_now, fresh, is_sound, Rests};
 ghost use Rattle.mb_din.specs.Turn.{answer, told_by, one, run, turn};
 ghost use Rattle.mb_din.specs.Reader.{Stands, Goes, IsFront, IsFrontTaken, IsLongest, TakesWhole, breaks, StatusNext, is_all_data};
 
@@ -59,8 +59,9 @@ impl DinReader {
     }
 
     /// The next mark or note of the bytes that were taken and of the input, which it takes from the front of the input.
-    /// What a byte makes known of earlier ones is told while it still stands in the input. `None` comes where the input
-    /// is used up and all of it is told. A run is lent from the input, and is never empty.
+    /// What a byte makes known of earlier ones is told while it still stands in the input, and before anything of it is
+    /// kept. `None` comes where the input is used up and all of it is told. A run is lent from the input, and is never
+    /// empty.
     #[inline(always)]
     pub fn next<'a>(&mut self, input: &mut &'a [u8]) -> Option<Seen<'a>>
         requires early { self.old.offset + length input.old.now < 2 ^ 63 }
@@ -79,8 +80,9 @@ impl DinReader {
             told ≡ so_far (entries ++ heard_from self.old.offset moment input.old.now)) }
         ensures longest { IfSome result (IsLongest input.new.now) }
 
-        // What a status breaks is told of while the status still stands in the input.
-        ensures before { breaks (answer result) ≡ true → StatusNext input.new.now }
+        // What a status breaks is told of before the status is taken: it still stands in the input, and nothing is begun,
+        // running or open.
+        ensures before { breaks (answer result) ≡ true → StatusNext input.new.now × Rests self.new }
 
         // A caller's loop ends by this.
         ensures progress { OnSome result (2 * length input.new.now + owed self.new < 2 * length input.old.now + owed self.old) }
@@ -176,6 +178,7 @@ impl DinReader {
     /// reader then stands as a fresh one does, for bytes from its present offset on.
     pub fn finish(&mut self) -> Option<Seen<'static>>
         ensures told { (entries : List Entry) → Stands self.old entries (so_far entries) → answer result ≡ at_end (last_of entries) }
+        ensures some { OnSome result (answer result ≡ [] → ⊥) }
         ensures as_fresh { self.new ≡ record fresh { offset = self.old.offset } }
         ensures stands { Stands self.new [] [] }
     {
@@ -184,9 +187,11 @@ impl DinReader {
         told
     }
 
-    /// A channel status, 80 to EF, runs from here on without a byte of its own.
+    /// A channel status, 80 to EF, runs from here on without a byte of its own. No message is begun then and no SysEx open:
+    /// it would be given up untold. `finish` ends either, and tells of it.
     pub fn resume(&mut self, status: u8)
-        requires { is_channel status ≡ true }
+        requires channel { is_channel status ≡ true }
+        requires free { free_now self.old ≡ true }
         ensures offset { self.new.offset ≡ self.old.offset }
         ensures runs { may_run_now self.new ≡ true }
         ensures stands { (entries : List Entry) → Stands self.old entries (so_far entries) → Stands self.new (entries ++ Silent status ∷ []) (so_far entries) }
@@ -221,6 +226,7 @@ impl DinReader {
         ensures left { input.new.now ≡ (turn self.old input.old.now).left }
         ensures behind { self.new ≡ (turn self.old input.old.now).behind }
         ensures some { OnSome result (answer result ≡ [] → ⊥) }
+        ensures before { breaks (answer result) ≡ true → StatusNext input.new.now × Rests self.new }
     {
         if let Some(seen) = self.take_message(input) {
             return Some(seen);
@@ -242,6 +248,7 @@ impl DinReader {
         ensures left { OnSome result (input.new.now ≡ (turn self.old input.old.now).left) }
         ensures behind { OnSome result (self.new ≡ (turn self.old input.old.now).behind) }
         ensures some { OnSome result (answer result ≡ [] → ⊥) }
+        ensures unbroken { breaks (answer result) ≡ false }
         ensures same { IfNone result (self.new ≡ self.old) }
         ensures kept { IfNone result (input.new.now ≡ input.old.now) }
     {
@@ -270,6 +277,7 @@ impl DinReader {
     fn take<'a>(&mut self, byte: u8, rest: &'a [u8], input: &mut &'a [u8]) -> Option<Seen<'a>>
         requires first { input.old.now ≡ byte ∷ rest.now }
         requires early { self.old.offset + length input.old.now < 2 ^ 63 }
+        ensures before { breaks (answer result) ≡ true → StatusNext input.new.now × Rests self.new }
         ensures told { answer result ≡ (one self.old byte rest.now).told }
         ensures left { input.new.now ≡ (one self.old byte rest.now).left }
         ensures behind { self.new ≡ (one self.old byte rest.now).behind }
@@ -315,6 +323,7 @@ impl DinReader {
         ensures told { told_by result ≡ (run self.old input.old.now).told }
         ensures left { input.new.now ≡ (run self.old input.old.now).left }
         ensures behind { self.new ≡ (run self.old input.old.now).behind }
+        ensures unbroken { breaks (told_by result) ≡ false }
     {
         let data = take_run(input);
         self.offset += data.len() as u64;

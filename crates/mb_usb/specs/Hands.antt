@@ -7,11 +7,12 @@ use Rattle.mb_stream.specs.Reading.{so_far}
 use Rattle.mb_message.specs.declared.event.PortSeen.{PortSeen}
 use Rattle.mb_message.specs.declared.event.PortSeen.TheVariants as port_seen
 use Rattle.mb_din.specs.Reader.{Stands, IsLongest, breaks, StatusNext}
-use Rattle.mb_din.specs.State.{State}
+use Rattle.mb_din.specs.State.{State, Rests}
 use Rattle.mb_din.specs.Turn.{told_by}
 use Rattle.mb_ports.specs.Reader.{NextSays}
 use Rattle.mb_usb.specs.declared.under.Packet.{Packet}
 use Rattle.mb_usb.specs.Under.{left_of, packet_behind}
+use Rattle.mb_usb.specs.State.{reader_at}
 
 -- as many bytes of the input as the packet's cable still carries
 abbrev pub piece_of : Packet → List ℕ → List ℕ
@@ -26,10 +27,10 @@ abbrev pub IsLongestOf : (left : List ℕ) → PortSeen → Type 0
 IsLongestOf left (port_seen.Port c seen) = IsLongest left seen
 IsLongestOf left (port_seen.Unit n) = Unit {0}
 
--- what a status breaks on its cable is told of while the status still stands in the input
-abbrev pub BreaksBefore : (left : List ℕ) → PortSeen → Type 0
-BreaksBefore left (port_seen.Port c seen) = breaks (told_by seen) ≡ true → StatusNext left
-BreaksBefore left (port_seen.Unit n) = Unit {0}
+-- What a status breaks on its cable is told of while the status still stands in the input, and before anything of it is kept.
+abbrev pub BreaksBefore : (readers : List State) (left : List ℕ) → PortSeen → Type 0
+BreaksBefore readers left (port_seen.Port c seen) = breaks (told_by seen) ≡ true → StatusNext left × Rests (reader_at readers c)
+BreaksBefore readers left (port_seen.Unit n) = Unit {0}
 
 -- `kept` are those of the piece that were not taken
 pub record Hands (was now : Packet) (reader reader_now : State) (input left : List ℕ) (answer : List Told) : Type 0 where

@@ -6,7 +6,7 @@ ghost use Rattle.mb_stream.specs.Told.{Known, at_end};
 ghost use Rattle.mb_din.specs.Turn.{answer};
 ghost use Rattle.mb_din.specs.Reader.{IsLongest, breaks, StatusNext};
 ghost use Rattle.mb_usb.specs.Under.{left_of};
-ghost use Rattle.mb_din.specs.State.{State, fresh};
+ghost use Rattle.mb_din.specs.State.{State, fresh, Rests};
 ghost use Rattle.mb_ports.specs.OnePort.{TellsOne, AllToldOne};
 ghost use Rattle.mb_usb.specs.Reading.{cable_payload};
 ghost use Rattle.mb_usb.specs.Cables.{cable_so_far, CableHolds, CableStands, CableTells, CableAllTold};
@@ -55,8 +55,9 @@ impl CableReader {
     }
 
     /// The next mark or note of the bytes that were taken and of the input, which it takes from the front of the input:
-    /// of the cable, or a note of any packet. `None` comes where the input is used up and all of it is told. A run is lent
-    /// from the input, and is never empty.
+    /// of the cable, or a note of any packet. What a byte makes known of earlier ones is told while it still stands in the
+    /// input, and before anything of it is kept. `None` comes where the input is used up and all of it is told. A run is
+    /// lent from the input, and is never empty.
     #[inline(always)]
     pub fn next<'a>(&mut self, input: &mut &'a [u8]) -> Option<Seen<'a>>
         requires early { self.old.packet.offset + length input.old.now < 2 ^ 63 }
@@ -70,8 +71,9 @@ impl CableReader {
         ensures longest { IfSome result (IsLongest (take (left_of self.new.packet.under) input.new.now)) }
         ensures none { IfNone result (input.new.now ≡ []) }
 
-        // What a status breaks is told of while the status still stands in the input.
-        ensures before { breaks (answer result) ≡ true → StatusNext input.new.now }
+        // What a status breaks is told of before the status is taken: it still stands in the input, and nothing is begun,
+        // running or open on the cable.
+        ensures before { breaks (answer result) ≡ true → StatusNext input.new.now × Rests self.new.reader }
 
         // A caller's loop ends by this.
         ensures progress { OnSome result (2 * length input.new.now + owed_one self.new < 2 * length input.old.now + owed_one self.old) }
@@ -84,6 +86,7 @@ impl CableReader {
     pub fn finish(&mut self) -> Option<Seen<'static>>
         ensures cable { self.new.cable ≡ self.old.cable }
         ensures told { (bytes : List ℕ) → CableStands self.old bytes (cable_so_far self.old.cable bytes) → answer result ≡ at_end (last_of (cable_payload self.old.cable bytes)) }
+        ensures some { OnSome result (answer result ≡ [] → ⊥) }
         ensures as_fresh { self.new.reader ≡ record fresh { offset = self.old.reader.offset } }
         ensures packets { self.new.packet ≡ self.old.packet }
     {
@@ -114,7 +117,7 @@ fn read_cable<'a>(
     ensures behind { IsBehind packet.new din.new }
     ensures end { packet.new.offset + length input.new.now ≡ packet.old.offset + length input.old.now }
     ensures longest { IfSome result (IsLongest (take (left_of packet.new.under) input.new.now)) }
-    ensures before { breaks (answer result) ≡ true → StatusNext input.new.now }
+    ensures before { breaks (answer result) ≡ true → StatusNext input.new.now × Rests din.new }
     ensures none { IfNone result (input.new.now ≡ []) }
     ensures progress { OnSome result (2 * length input.new.now + owed_alone own packet.new din.new < 2 * length input.old.now + owed_alone own packet.old din.old) }
 {

@@ -3,7 +3,7 @@
 ghost use Rattle.std.specs.Prelude.{◌≡◌, ◌≢◌, ◌+◌, ◌*◌, ◌/◌, ◌%◌, ◌<◌, ◌^◌, true, None, [], ℕ, List, length, take, drop, OnSome, IfSome, IfNone};
 ghost use Rattle.mb_din.specs.Turn.{answer};
 ghost use Rattle.mb_din.specs.Reader.{IsLongest, breaks, StatusNext};
-ghost use Rattle.mb_din.specs.State.{fresh};
+ghost use Rattle.mb_din.specs.State.{fresh, Rests};
 ghost use Rattle.mb_usb.specs.Under.{left_of, head_of};
 ghost use Rattle.mb_usb.specs.Hands.{Hands, IsLongestOf, BreaksBefore};
 ghost use Rattle.mb_stream.specs.Groups.{last_of};
@@ -56,8 +56,8 @@ impl UsbReader {
 
     /// The next mark or note of the bytes that were taken and of the input, which it takes from the front of the input:
     /// of a cable, or a note of a packet. What a byte makes known of earlier ones is told while it still stands in the
-    /// input. `None` comes where the input is used up and all of it is told. A run is lent from the input, and is never
-    /// empty.
+    /// input, and before anything of it is kept. `None` comes where the input is used up and all of it is told. A run is
+    /// lent from the input, and is never empty.
     #[inline(always)]
     pub fn next<'a>(&mut self, input: &mut &'a [u8]) -> Option<PortSeen<'a>>
         requires early { self.old.packet.offset + length input.old.now < 2 ^ 63 }
@@ -68,8 +68,11 @@ impl UsbReader {
         ensures all_told { IfNone result (UsbAllTold self.old input.old.now) }
         ensures end { self.new.packet.offset + length input.new.now ≡ self.old.packet.offset + length input.old.now }
         ensures longest { IfSome result (IsLongestOf (take (left_of self.new.packet.under) input.new.now)) }
-        ensures before { IfSome result (BreaksBefore input.new.now) }
         ensures none { IfNone result (input.new.now ≡ []) }
+
+        // What a status breaks is told of before the status is taken: it still stands in the input, and nothing is begun,
+        // running or open on its cable.
+        ensures before { IfSome result (BreaksBefore self.new.readers input.new.now) }
 
         // A caller's loop ends by this.
         ensures progress { OnSome result (2 * length input.new.now + owed self.new < 2 * length input.old.now + owed self.old) }
@@ -85,6 +88,7 @@ impl UsbReader {
         // The same where all was told of the bytes, and other cables were finished since.
         ensures in_turn { (was : UsbState) → reader_at self.old.readers cable ≡ reader_at was.readers cable →
             (bytes : List ℕ) → UsbStands was bytes (all_cables_so_far bytes) → answer result ≡ at_end (last_of (cable_payload cable bytes)) }
+        ensures some { OnSome result (answer result ≡ [] → ⊥) }
         ensures as_fresh { reader_at self.new.readers cable ≡ record fresh { offset = (reader_at self.old.readers cable).offset } }
         ensures others { (c : ℕ) → c ≢ cable → reader_at self.new.readers c ≡ reader_at self.old.readers c }
         ensures packets { self.new.packet ≡ self.old.packet }
@@ -115,7 +119,7 @@ fn read<'a>(
     ensures behind { AreBehind packet.new dins.new }
     ensures end { packet.new.offset + length input.new.now ≡ packet.old.offset + length input.old.now }
     ensures longest { IfSome result (IsLongestOf (take (left_of packet.new.under) input.new.now)) }
-    ensures before { IfSome result (BreaksBefore input.new.now) }
+    ensures before { IfSome result (BreaksBefore dins.new input.new.now) }
     ensures none { IfNone result (input.new.now ≡ []) }
     ensures progress { OnSome result (2 * length input.new.now + owed_of packet.new (reader_at dins.new (head_of packet.new.under / 16)) < 2 * length input.old.now + owed_of packet.old (reader_at dins.old (head_of packet.old.under / 16))) }
 {
@@ -158,7 +162,7 @@ fn carry_at<'a>(
     ensures behind { AreBehind packet.new dins.new }
     ensures some { OnSome result (answer result ≡ [] → ⊥) }
     ensures longest { IfSome result (IsLongest (take (left_of packet.new.under) input.new.now)) }
-    ensures before { breaks (answer result) ≡ true → StatusNext input.new.now }
+    ensures before { breaks (answer result) ≡ true → StatusNext input.new.now × Rests (reader_at dins.new port) }
     ensures none { IfNone result (input.new.now ≡ drop (left_of packet.old.under) input.old.now) }
     ensures end { packet.new.offset + length input.new.now ≡ packet.old.offset + length input.old.now }
     ensures progress { OnSome result (2 * length input.new.now + owed_of packet.new (reader_at dins.new (head_of packet.new.under / 16)) < 2 * length input.old.now + owed_of packet.old (reader_at dins.old (head_of packet.old.under / 16))) }

@@ -26,8 +26,9 @@ returns-clause-longest c =
 pub returns-clause-before : goal.returns-clause-before
 returns-clause-before c e =
     let h = both c in
-    let own : StatusNext h.0.kept = subst StatusNext (sym h.1) (c.next-seen.ensures.before e) in
-    subst StatusNext (sym h.0.left_is) (status-stays h.0.kept (drop (left_of c.args.packet.now.under) c.args.input.now.now) own)
+    let told = c.next-seen.ensures.before e in
+    let own : StatusNext h.0.kept = subst StatusNext (sym h.1) told.0 in
+    (subst StatusNext (sym h.0.left_is) (status-stays h.0.kept (drop (left_of c.args.packet.now.under) c.args.input.now.now) own), told.1)
 
 pub returns-clause-end : goal.returns-clause-end
 returns-clause-end c = hands-end c.args.packet.now c.pass_all.new.self c.args.din.now c.next-seen.new.self c.args.input.now.now c.split_at-2.result.1.now _ (both c).0

@@ -1,6 +1,6 @@
 use Rattle.mb_din.specs.Turn.{answer}
 use Rattle.mb_din.proofs.ReaderLaw.{next_stands, all_told}
-use Rattle.mb_din.proofs.TurnLemmas.{front_of, end_of, none_of, falls_of, longest_of, before_of}
+use Rattle.mb_din.proofs.TurnLemmas.{front_of, end_of, none_of, falls_of, longest_of}
 use Rattle.mb_din.proofs.reader.DinReader.next.Goals as goal
 
 pub returns-clause-front : goal.returns-clause-front
@@ -14,10 +14,6 @@ returns-clause-none c =
 pub returns-clause-longest : goal.returns-clause-longest
 returns-clause-longest c =
     longest_of c.advance.result c.args.self.now c.args.input.now.now c.advance.new.input.now c.advance.ensures.some c.advance.ensures.told c.advance.ensures.left
-
-pub returns-clause-before : goal.returns-clause-before
-returns-clause-before c =
-    before_of c.advance.result c.args.self.now c.args.input.now.now c.advance.new.input.now c.advance.ensures.told c.advance.ensures.left
 
 pub returns-clause-progress : goal.returns-clause-progress
 returns-clause-progress c =
