@@ -61,6 +61,7 @@ pub fn bridge<D: Desk>(alloc: Global, words: &Args, desk: &mut D) -> u8
     // Each answer has its cause, for every desk.
     ensures answers { is_answer result ≡ true }
     ensures usage { (result ≡ 2) ↔ ((c : words_mean.Command) → Means words.now c → ⊥) }
+    ensures meant { (result ≡ 2 → ⊥) → (c : words_mean.Command) × Means words.now c }
     ensures read_fault { result ≡ 3 → Rose (D.read_faults desk.old) (D.read_faults desk.new) }
     ensures read_fault_told { (result ≡ 3 → ⊥) → D.read_faults desk.new ≡ D.read_faults desk.old }
     ensures write_fault { result ≡ 4 → Rose (D.write_faults desk.old) (D.write_faults desk.new) }
@@ -115,6 +116,7 @@ pub fn bridge_within<D: Desk>(alloc: Global, words: &Args, desk: &mut D, limit: 
     // Each answer has its cause, for every desk.
     ensures answers { is_answer result ≡ true }
     ensures usage { (result ≡ 2) ↔ ((c : words_mean.Command) → Means words.now c → ⊥) }
+    ensures meant { (result ≡ 2 → ⊥) → (c : words_mean.Command) × Means words.now c }
     ensures read_fault { result ≡ 3 → Rose (D.read_faults desk.old) (D.read_faults desk.new) }
     ensures read_fault_told { (result ≡ 3 → ⊥) → D.read_faults desk.new ≡ D.read_faults desk.old }
     ensures write_fault { result ≡ 4 → Rose (D.write_faults desk.old) (D.write_faults desk.new) }
@@ -139,6 +141,7 @@ fn run<D: Desk>(alloc: Global, words: &Args, desk: &mut D, limit: u64) -> Status
     requires { limit ≤ 2 ^ 40 }
     ensures ran { IsTrue D.tells → RanWords words.now limit (D.contents desk.old) (D.contents desk.new) result }
     ensures usage { (result ≡ status.Usage) ↔ ((c : words_mean.Command) → Means words.now c → ⊥) }
+    ensures meant { (result ≡ status.Usage → ⊥) → (c : words_mean.Command) × Means words.now c }
     ensures memory { wants_memory result ≡ false }
     ensures fault { HasFault (D.read_faults desk.old) (D.read_faults desk.new) (D.write_faults desk.old) (D.write_faults desk.new) result }
     ensures told { (result ≡ status.ReadFault → ⊥) → D.read_faults desk.new ≡ D.read_faults desk.old }
