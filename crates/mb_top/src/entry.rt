@@ -32,6 +32,7 @@ pub fn bridge<D: Desk>(alloc: Global, words: &Args, desk: &mut D) -> u8
     ensures contents { IsTrue D.tells → Answered words.now (2 ^ 40) (D.contents desk.old) (D.contents desk.new) (D.write_faults desk.old) (D.write_faults desk.new) result }
 
     // What was written denotes on its port exactly what the bytes read denote on theirs.
+    // No command has specs between the first and the last yet.
     ensures headline { (first : Spec) (between : List Spec) (last : Spec) → IsTrue D.tells → Means words.now (Converting first between last) → read_all result ≡ true →
         den last (added_to 1 (D.contents desk.old) (D.contents desk.new)) ≡ den first (taken_off 0 (D.contents desk.old) (D.contents desk.new)) }
 
@@ -58,7 +59,7 @@ pub fn bridge<D: Desk>(alloc: Global, words: &Args, desk: &mut D) -> u8
     // It answers 5 exactly where all of the input was read and stops inside a packet.
     ensures cut { (c : words_mean.Command) → IsTrue D.tells → Means words.now c → read_all result ≡ true → (result ≡ 5) ↔ (whole (source_of c) ((D.contents desk.old).left 0) ≡ false) }
 
-    // Each answer has its cause, for every desk.
+    // For every desk: 2 exactly where the words are no command, 3 and 4 only where such a fault came.
     ensures answers { is_answer result ≡ true }
     ensures usage { (result ≡ 2) ↔ ((c : words_mean.Command) → Means words.now c → ⊥) }
     ensures meant { (result ≡ 2 → ⊥) → (c : words_mean.Command) × Means words.now c }
@@ -87,6 +88,7 @@ pub fn bridge_within<D: Desk>(alloc: Global, words: &Args, desk: &mut D, limit: 
     ensures contents { IsTrue D.tells → Answered words.now limit (D.contents desk.old) (D.contents desk.new) (D.write_faults desk.old) (D.write_faults desk.new) result }
 
     // What was written denotes on its port exactly what the bytes read denote on theirs.
+    // No command has specs between the first and the last yet.
     ensures headline { (first : Spec) (between : List Spec) (last : Spec) → IsTrue D.tells → Means words.now (Converting first between last) → read_all result ≡ true →
         den last (added_to 1 (D.contents desk.old) (D.contents desk.new)) ≡ den first (taken_off 0 (D.contents desk.old) (D.contents desk.new)) }
 
@@ -113,7 +115,7 @@ pub fn bridge_within<D: Desk>(alloc: Global, words: &Args, desk: &mut D, limit: 
     // It answers 5 exactly where all of the input was read and stops inside a packet.
     ensures cut { (c : words_mean.Command) → IsTrue D.tells → Means words.now c → read_all result ≡ true → (result ≡ 5) ↔ (whole (source_of c) ((D.contents desk.old).left 0) ≡ false) }
 
-    // Each answer has its cause, for every desk.
+    // For every desk: 2 exactly where the words are no command, 3 and 4 only where such a fault came.
     ensures answers { is_answer result ≡ true }
     ensures usage { (result ≡ 2) ↔ ((c : words_mean.Command) → Means words.now c → ⊥) }
     ensures meant { (result ≡ 2 → ⊥) → (c : words_mean.Command) × Means words.now c }
