@@ -156,13 +156,17 @@ fn run<D: Desk>(alloc: Global, words: &Args, desk: &mut D, limit: u64) -> Status
     }
 }
 
-/// Writes a text to standard error. That it can't be written changes no status.
+/// Writes a text to standard error, and nothing where it is empty. That it can't be written changes no status.
 fn say<D: Desk>(desk: &mut D, text: &str)
     ensures said { IsTrue D.tells → (said : List ℕ) × (D.contents desk.new ≡ after_write 2 said (D.contents desk.old))
         × Says (Rose (D.write_faults desk.old) (D.write_faults desk.new)) said text.now }
     ensures reads { D.read_faults desk.new ≡ D.read_faults desk.old }
     ensures writes { D.write_faults desk.old ≤ D.write_faults desk.new }
+    ensures quiet { text.now ≡ [] → D.write_faults desk.new ≡ D.write_faults desk.old }
 {
+    if text.is_empty() {
+        return;
+    }
     let _ = write_text(desk, text);
 }
 
