@@ -4,6 +4,7 @@ use Rattle.std.specs.Prelude.{Result, Ok, Err, OnOk, OnErr}
 use Rattle.std.proofs.lemmas.List.{append-nil, take_at, drop_at}
 use Rattle.mb_outside.specs.Cause.{Rose}
 use Rattle.mb_outside.specs.Contents.{Contents, after_write}
+use Rattle.mb_outside.specs.ContentsLaws.{after_write-none}
 use Rattle.mb_outside.specs.Taking.{IsFront, Wrote}
 use Rattle.mb_carrier.specs.Carrier.{whole}
 use Rattle.mb_carrier.specs.Word.{word_of}
@@ -24,6 +25,10 @@ said (Ok x) tells contents read_faults before after text rose ok err cause t =
     (text, ok.contents_are t, record { front = ([], sym (append-nil text)); all = inl refl })
 said (Err x) tells contents read_faults before after text rose ok err cause t =
     (err.0, (err.2).contents_are t, record { front = err.1; all = inr cause })
+
+-- of an empty text nothing is written
+pub none_said : (contents : Contents) (text : List ℕ) (rose : Type 0) → text ≡ [] → (words : List ℕ) × (contents ≡ after_write 2 words contents) × Says rose words text
+none_said contents text rose none = ([], sym (after_write-none 2 contents), record { front = (text, refl); all = inl (sym none) })
 
 -- words are one command
 

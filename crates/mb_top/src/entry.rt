@@ -32,6 +32,7 @@ pub fn bridge<D: Desk>(alloc: Global, words: &Args, desk: &mut D) -> u8
     ensures contents { IsTrue D.tells → Answered words.now (2 ^ 40) (D.contents desk.old) (D.contents desk.new) (D.write_faults desk.old) (D.write_faults desk.new) result }
 
     // What was written denotes on its port exactly what the bytes read denote on theirs.
+    // No command has specs between the first and the last yet.
     ensures headline { (first : Spec) (between : List Spec) (last : Spec) → IsTrue D.tells → Means words.now (Converting first between last) → read_all result ≡ true →
         den last (added_to 1 (D.contents desk.old) (D.contents desk.new)) ≡ den first (taken_off 0 (D.contents desk.old) (D.contents desk.new)) }
 
@@ -58,9 +59,10 @@ pub fn bridge<D: Desk>(alloc: Global, words: &Args, desk: &mut D) -> u8
     // It answers 5 exactly where all of the input was read and stops inside a packet.
     ensures cut { (c : words_mean.Command) → IsTrue D.tells → Means words.now c → read_all result ≡ true → (result ≡ 5) ↔ (whole (source_of c) ((D.contents desk.old).left 0) ≡ false) }
 
-    // Each answer has its cause, for every desk.
+    // For every desk: 2 exactly where the words are no command, 3 and 4 only where such a fault came.
     ensures answers { is_answer result ≡ true }
     ensures usage { (result ≡ 2) ↔ ((c : words_mean.Command) → Means words.now c → ⊥) }
+    ensures meant { (result ≡ 2 → ⊥) → (c : words_mean.Command) × Means words.now c }
     ensures read_fault { result ≡ 3 → Rose (D.read_faults desk.old) (D.read_faults desk.new) }
     ensures read_fault_told { (result ≡ 3 → ⊥) → D.read_faults desk.new ≡ D.read_faults desk.old }
     ensures write_fault { result ≡ 4 → Rose (D.write_faults desk.old) (D.write_faults desk.new) }
@@ -86,6 +88,7 @@ pub fn bridge_within<D: Desk>(alloc: Global, words: &Args, desk: &mut D, limit: 
     ensures contents { IsTrue D.tells → Answered words.now limit (D.contents desk.old) (D.contents desk.new) (D.write_faults desk.old) (D.write_faults desk.new) result }
 
     // What was written denotes on its port exactly what the bytes read denote on theirs.
+    // No command has specs between the first and the last yet.
     ensures headline { (first : Spec) (between : List Spec) (last : Spec) → IsTrue D.tells → Means words.now (Converting first between last) → read_all result ≡ true →
         den last (added_to 1 (D.contents desk.old) (D.contents desk.new)) ≡ den first (taken_off 0 (D.contents desk.old) (D.contents desk.new)) }
 
@@ -112,9 +115,10 @@ pub fn bridge_within<D: Desk>(alloc: Global, words: &Args, desk: &mut D, limit: 
     // It answers 5 exactly where all of the input was read and stops inside a packet.
     ensures cut { (c : words_mean.Command) → IsTrue D.tells → Means words.now c → read_all result ≡ true → (result ≡ 5) ↔ (whole (source_of c) ((D.contents desk.old).left 0) ≡ false) }
 
-    // Each answer has its cause, for every desk.
+    // For every desk: 2 exactly where the words are no command, 3 and 4 only where such a fault came.
     ensures answers { is_answer result ≡ true }
     ensures usage { (result ≡ 2) ↔ ((c : words_mean.Command) → Means words.now c → ⊥) }
+    ensures meant { (result ≡ 2 → ⊥) → (c : words_mean.Command) × Means words.now c }
     ensures read_fault { result ≡ 3 → Rose (D.read_faults desk.old) (D.read_faults desk.new) }
     ensures read_fault_told { (result ≡ 3 → ⊥) → D.read_faults desk.new ≡ D.read_faults desk.old }
     ensures write_fault { result ≡ 4 → Rose (D.write_faults desk.old) (D.write_faults desk.new) }
@@ -139,6 +143,7 @@ fn run<D: Desk>(alloc: Global, words: &Args, desk: &mut D, limit: u64) -> Status
     requires { limit ≤ 2 ^ 40 }
     ensures ran { IsTrue D.tells → RanWords words.now limit (D.contents desk.old) (D.contents desk.new) result }
     ensures usage { (result ≡ status.Usage) ↔ ((c : words_mean.Command) → Means words.now c → ⊥) }
+    ensures meant { (result ≡ status.Usage → ⊥) → (c : words_mean.Command) × Means words.now c }
     ensures memory { wants_memory result ≡ false }
     ensures fault { HasFault (D.read_faults desk.old) (D.read_faults desk.new) (D.write_faults desk.old) (D.write_faults desk.new) result }
     ensures told { (result ≡ status.ReadFault → ⊥) → D.read_faults desk.new ≡ D.read_faults desk.old }
@@ -151,13 +156,17 @@ fn run<D: Desk>(alloc: Global, words: &Args, desk: &mut D, limit: u64) -> Status
     }
 }
 
-/// Writes a text to standard error. That it can't be written changes no status.
+/// Writes a text to standard error, and nothing where it is empty. That it can't be written changes no status.
 fn say<D: Desk>(desk: &mut D, text: &str)
     ensures said { IsTrue D.tells → (said : List ℕ) × (D.contents desk.new ≡ after_write 2 said (D.contents desk.old))
         × Says (Rose (D.write_faults desk.old) (D.write_faults desk.new)) said text.now }
     ensures reads { D.read_faults desk.new ≡ D.read_faults desk.old }
     ensures writes { D.write_faults desk.old ≤ D.write_faults desk.new }
+    ensures quiet { text.now ≡ [] → D.write_faults desk.new ≡ D.write_faults desk.old }
 {
+    if text.is_empty() {
+        return;
+    }
     let _ = write_text(desk, text);
 }
 

@@ -1,11 +1,11 @@
-use Rattle.std.proofs.Common.{◌∙◌, [], sym, ap, subst}
+use Rattle.std.proofs.Common.{◌∙◌, [], sym, ap, subst, arith}
 use Rattle.mb_carrier.specs.Carrier.{den, notes_of, whole}
 use Rattle.mb_carrier.specs.Conversion.{through}
 use Rattle.mb_carrier.specs.Lines.{listed}
 use Rattle.mb_carrier.specs.declared.spec.Spec.TheVariants.{Din}
 use Rattle.mb_carrier.proofs.ChainLemmas.{through-canonical, through-means, through-clean, through-whole}
 use Rattle.mb_top.specs.Command.{Converting, Listing}
-use Rattle.mb_top.specs.Answer.{code_of, read_all}
+use Rattle.mb_top.specs.Answer.{code_of}
 use Rattle.mb_top.specs.Output.{HasNotes, HasNoNotes}
 use Rattle.mb_top.proofs.AnswerLemmas.{answered, done, noted, went_through, cut-at_end, reads_all, completes, says-earlier, says-text, not_usage, read_fault, write_fault}
 use Rattle.mb_top.proofs.entry.bridge_within.Goals as goal
@@ -13,7 +13,7 @@ use Rattle.mb_top.proofs.entry.bridge_within.Goals as goal
 pub returns-clause-contents : goal.returns-clause-contents
 returns-clause-contents g c = λ tells.
     let words = c.say.ensures.said tells in
-    answered _ _ _ _ _ _ _ c.run-status.result _ words.0 c.code.ensures (c.run-status.ensures.ran tells) words.1
+    answered _ _ _ _ _ _ _ c.run-status.result _ words.0 (omega (arith, c.code.ensures)) (c.run-status.ensures.ran tells) words.1
     (says-earlier _ _ _ _ _ c.run-status.result words.0 _ c.run-status.ensures.writes c.run-status.ensures.fault (says-text _ words.0 _ _ c.text.ensures words.2))
 
 pub returns-clause-headline : goal.returns-clause-headline
@@ -61,9 +61,11 @@ returns-clause-cut g c = λ command tells m all. cut-at_end _ _ _ _ _ _ _ comman
 
 pub returns-clause-reads_all : goal.returns-clause-reads_all
 returns-clause-reads_all g c = λ command tells m no_reads no_writes short.
-    ap read_all c.code.ensures ∙ reads_all _ _ _ _ _ _ c.run-status.result command m
+    let all =
+    reads_all _ _ _ _ _ _ c.run-status.result command m
     (not_usage c.run-status.result (λ e. (c.run-status.ensures.usage).0 e command m)) c.run-status.ensures.memory
-    (read_fault _ _ _ _ _ c.run-status.result c.say.ensures.reads c.run-status.ensures.fault) (write_fault _ _ _ _ _ c.run-status.result c.say.ensures.writes c.run-status.ensures.fault) no_reads no_writes short (c.run-status.ensures.ran tells)
+    (read_fault _ _ _ _ _ c.run-status.result c.say.ensures.reads c.run-status.ensures.fault) (write_fault _ _ _ _ _ c.run-status.result c.say.ensures.writes c.run-status.ensures.fault) no_reads no_writes short (c.run-status.ensures.ran tells) in
+    grind (arith, c.code.ensures, all)
 
 pub returns-clause-complete : goal.returns-clause-complete
 returns-clause-complete g c = λ first between last tells m no_reads no_writes short is_whole.
@@ -71,4 +73,4 @@ returns-clause-complete g c = λ first between last tells m no_reads no_writes s
 
 pub returns-clause-read_fault_told : goal.returns-clause-read_fault_told
 returns-clause-read_fault_told g c = λ other.
-    c.say.ensures.reads ∙ c.run-status.ensures.told (λ e. other (c.code.ensures ∙ ap code_of e))
+    c.say.ensures.reads ∙ c.run-status.ensures.told (λ e. other (omega (arith, c.code.ensures, ap code_of e)))
