@@ -1,6 +1,6 @@
 #!/usr/bin/env bash
 # Tries the wrong bodies that stand here, in the same way as the gate tries those in crates/NAME/must-fail: the prover must refuse
-# each. The gate has the most telling five to seven of a crate; these are further ones, kept out of it for its time. Beside a tree
+# each. The gate has the most telling five to ten of a crate; these are further ones, kept out of it for its time. Beside a tree
 # that was built the run takes a quarter of an hour for all.
 #
 #     bash wrong-bodies/try.sh [CRATE ..]
