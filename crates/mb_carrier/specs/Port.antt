@@ -1,5 +1,5 @@
 -- What readers and writers of any port stand for, by their carrier.
-use Rattle.std.specs.Prelude.{◌≡◌, ℕ, Bool, true, List, take}
+use Rattle.std.specs.Prelude.{◌≡◌, ℕ, Bool, true, false, not, ◌==◌, List, take}
 use Rattle.mb_message.specs.Signs.{Sign}
 use Rattle.mb_stream.specs.Told.{Known}
 use Rattle.mb_din.specs.Writer as din
@@ -8,7 +8,7 @@ use Rattle.mb_din.specs.State as din_state
 use Rattle.mb_din.specs.State.{Rests}
 use Rattle.mb_usb.specs.Cables.{CableStands}
 use Rattle.mb_usb.specs.State as usb_state
-use Rattle.mb_usb.specs.Under.{left_of}
+use Rattle.mb_usb.specs.Under.{left_of, taken_of}
 use Rattle.mb_carrier.specs.Line.{LineStands}
 use Rattle.mb_carrier.specs.declared.spec.Spec.{Spec}
 use Rattle.mb_carrier.specs.declared.spec.Spec.TheVariants as spec
@@ -86,3 +86,11 @@ beside_by (reader.Usb r) input = take (left_of r.packet.under) input
 
 abbrev pub beside : PortReader → List ℕ → List ℕ
 beside r input = beside_by r.carrier input
+
+-- the bytes that it took stop inside a packet
+abbrev pub is_partial_by : ReaderOf → Bool
+is_partial_by (reader.Din r) = false
+is_partial_by (reader.Usb r) = not (taken_of r.packet.under == 0)
+
+abbrev pub is_partial : PortReader → Bool
+is_partial r = is_partial_by r.carrier

@@ -7,6 +7,7 @@ use mb_din::{DinReader, DinWriter};
 use mb_message::{Buf, Ev, Seen};
 
 impl EventReader for DinReader {
+    ghost use Rattle.std.specs.Prelude.{false};
     ghost use Rattle.mb_din.specs.State as state;
     ghost use Rattle.mb_din.specs.State.{Rests};
     ghost use Rattle.mb_carrier.specs.Line.{LineStands};
@@ -24,6 +25,8 @@ impl EventReader for DinReader {
     ghost stands = { λ r bytes told. LineStands r bytes told };
 
     ghost rests = { λ r. Rests r };
+
+    ghost is_partial = { λ r. false };
 
     #[inline(always)]
     fn next<'a>(&mut self, input: &mut &'a [u8]) -> Option<Seen<'a>> {

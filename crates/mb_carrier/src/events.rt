@@ -38,6 +38,9 @@ pub trait EventReader {
     /// Nothing is begun, running or open on its port.
     ghost rests: { Self → Type 0 };
 
+    /// Whether the bytes that it took stop inside a packet.
+    ghost is_partial: { Self → Bool };
+
     /// The next mark or note of the bytes taken before and of the input, which it takes from the front of the input.
     fn next<'a>(&mut self, input: &mut &'a [u8]) -> Option<Seen<'a>>
         requires early { offset self.old + length input.old.now < 2 ^ 63 }
@@ -53,9 +56,11 @@ pub trait EventReader {
         ensures all_told { IfNone result ((bytes : List ℕ) (told : List Known) → stands self.old bytes told → IsFront told (known (spec self.old) (bytes ++ input.old.now)) →
             told ≡ known (spec self.old) (bytes ++ input.old.now)) };
 
-    /// What only the end makes known.
+    /// What only the end makes known. It takes no byte.
     fn finish(&mut self) -> Option<Seen<'static>>
         ensures spec { spec self.new ≡ spec self.old }
+        ensures offset { offset self.new ≡ offset self.old }
+        ensures partial { is_partial self.new ≡ is_partial self.old }
         ensures rests { rests self.new }
         ensures told { (bytes : List ℕ) → stands self.old bytes (known (spec self.old) bytes) → answer result ≡ end_told (spec self.old) bytes }
         ensures some { OnSome result (answer result ≡ [] → ⊥) };

@@ -7,7 +7,7 @@ ghost use Rattle.mb_din.specs.Turn.{answer};
 ghost use Rattle.mb_outside.specs.Taking.{IsFront};
 ghost use Rattle.mb_carrier.specs.Carrier.{known, end_told, whole};
 ghost use Rattle.mb_carrier.specs.Hop.{ReaderGoes};
-ghost use Rattle.mb_carrier.specs.Port.{reader_spec, reader_offset, reader_owed, beside, ReaderStands, ReaderRests, reader_spec_by, reader_offset_by, reader_owed_by, beside_by, ReaderStandsBy, ReaderRestsBy};
+ghost use Rattle.mb_carrier.specs.Port.{reader_spec, reader_offset, reader_owed, beside, is_partial, ReaderStands, ReaderRests, reader_spec_by, reader_offset_by, reader_owed_by, beside_by, is_partial_by, ReaderStandsBy, ReaderRestsBy};
 ghost use Rattle.mb_carrier.specs.Step.{seen_in, seen_of, IsAt};
 ghost use Rattle.mb_carrier.specs.Word.{IsSpec};
 
@@ -90,9 +90,11 @@ impl PortReader {
     }
 
     /// What only the end of the recording makes known: a message that was begun and not finished, or an open SysEx. Then
-    /// nothing is begun, running or open on the port.
+    /// nothing is begun, running or open on the port; offsets go on, and `partial` answers as before.
     pub fn finish(&mut self) -> Option<PortStep<'static>>
         ensures spec { reader_spec self.new ≡ reader_spec self.old }
+        ensures offset { reader_offset self.new ≡ reader_offset self.old }
+        ensures partial { is_partial self.new ≡ is_partial self.old }
         ensures moment { self.new.moment ≡ self.old.moment }
         ensures at { IfSome result (IsAt self.old.moment) }
         ensures rests { ReaderRests self.new }
@@ -107,7 +109,8 @@ impl PortReader {
 
     /// Whether the bytes that were taken stop inside a packet.
     pub fn partial(&self) -> bool
-        ensures { (bytes : List ℕ) (told : List Known) → ReaderStands self.now bytes told → result ≡ not (whole (reader_spec self.now) bytes) }
+        ensures state { result ≡ is_partial self.now }
+        ensures law { (bytes : List ℕ) (told : List Known) → ReaderStands self.now bytes told → result ≡ not (whole (reader_spec self.now) bytes) }
     {
         match &self.carrier {
             ReaderOf::Din(_) => false,
@@ -140,6 +143,8 @@ fn next_seen<'a>(carrier: &mut ReaderOf, input: &mut &'a [u8]) -> Option<Seen<'a
 /// What only the end makes known to a carrier's reader.
 fn last_seen(carrier: &mut ReaderOf) -> Option<Seen<'static>>
     ensures spec { reader_spec_by carrier.new ≡ reader_spec_by carrier.old }
+    ensures offset { reader_offset_by carrier.new ≡ reader_offset_by carrier.old }
+    ensures partial { is_partial_by carrier.new ≡ is_partial_by carrier.old }
     ensures rests { ReaderRestsBy carrier.new }
     ensures told { (bytes : List ℕ) → ReaderStandsBy carrier.old bytes (known (reader_spec_by carrier.old) bytes) → answer result ≡ end_told (reader_spec_by carrier.old) bytes }
     ensures some { OnSome result (answer result ≡ [] → ⊥) }

@@ -7,9 +7,10 @@ use mb_message::{Buf, Ev, Seen};
 use mb_usb::{CableReader, UsbWriter};
 
 impl EventReader for CableReader {
+    ghost use Rattle.std.specs.Prelude.{not, ◌==◌};
     ghost use Rattle.mb_din.specs.State.{Rests};
     ghost use Rattle.mb_usb.specs.State as state;
-    ghost use Rattle.mb_usb.specs.Under.{left_of};
+    ghost use Rattle.mb_usb.specs.Under.{left_of, taken_of};
     ghost use Rattle.mb_usb.specs.Cables.{CableStands};
     ghost use Rattle.mb_carrier.specs.declared.spec.Spec.TheVariants.{Usb};
     ghost use Rattle.mb_carrier.specs.UsbLaws.{known-stays, marks-end, marks-suit};
@@ -25,6 +26,8 @@ impl EventReader for CableReader {
     ghost stands = { λ r bytes told. CableStands r bytes told };
 
     ghost rests = { λ r. Rests r.reader };
+
+    ghost is_partial = { λ r. not (taken_of r.packet.under == 0) };
 
     #[inline(always)]
     fn next<'a>(&mut self, input: &mut &'a [u8]) -> Option<Seen<'a>> {

@@ -5,7 +5,7 @@ ghost use Rattle.mb_stream.specs.Groups.{last_of};
 ghost use Rattle.mb_stream.specs.Told.{Known, at_end};
 ghost use Rattle.mb_din.specs.Turn.{answer};
 ghost use Rattle.mb_din.specs.Reader.{IsLongest, breaks, StatusNext};
-ghost use Rattle.mb_usb.specs.Under.{left_of};
+ghost use Rattle.mb_usb.specs.Under.{left_of, taken_of};
 ghost use Rattle.mb_din.specs.State.{State, fresh, Rests};
 ghost use Rattle.mb_ports.specs.OnePort.{TellsOne, AllToldOne};
 ghost use Rattle.mb_usb.specs.Reading.{cable_payload};
@@ -95,7 +95,8 @@ impl CableReader {
 
     /// How many bytes of an unfinished packet were taken, 0 to 3.
     pub fn partial(&self) -> u8
-        ensures { (bytes : List ℕ) (told : List Known) → CableStands self.now bytes told → result ≡ length bytes % 4 }
+        ensures state { result ≡ taken_of self.now.packet.under }
+        ensures law { (bytes : List ℕ) (told : List Known) → CableStands self.now bytes told → result ≡ length bytes % 4 }
     {
         taken(self.packet.under)
     }

@@ -4,7 +4,7 @@ ghost use Rattle.std.specs.Prelude.{◌≡◌, ◌≢◌, ◌+◌, ◌*◌, ◌/
 ghost use Rattle.mb_din.specs.Turn.{answer};
 ghost use Rattle.mb_din.specs.Reader.{IsLongest, breaks, StatusNext};
 ghost use Rattle.mb_din.specs.State.{fresh, Rests};
-ghost use Rattle.mb_usb.specs.Under.{left_of, head_of};
+ghost use Rattle.mb_usb.specs.Under.{left_of, head_of, taken_of};
 ghost use Rattle.mb_usb.specs.Hands.{Hands, IsLongestOf, BreaksBefore};
 ghost use Rattle.mb_stream.specs.Groups.{last_of};
 ghost use Rattle.mb_stream.specs.Told.{at_end};
@@ -98,7 +98,8 @@ impl UsbReader {
 
     /// How many bytes of an unfinished packet were taken, 0 to 3.
     pub fn partial(&self) -> u8
-        ensures { (bytes : List ℕ) (told : List Ported) → UsbStands self.now bytes told → result ≡ length bytes % 4 }
+        ensures state { result ≡ taken_of self.now.packet.under }
+        ensures law { (bytes : List ℕ) (told : List Ported) → UsbStands self.now bytes told → result ≡ length bytes % 4 }
     {
         taken(self.packet.under)
     }
