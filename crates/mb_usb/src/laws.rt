@@ -35,10 +35,11 @@ pub fn usb_carries()
     ensures alone { (cable other : ℕ) (marks : List Sign) → (other ≡ cable → ⊥) → cable_payload other (usb_written cable marks) ≡ [] }
 {}
 
-/// The marks of the reading of any bytes are valid and stand where a stream can have them.
+/// The marks of the reading of any bytes are valid and stand where a stream can have them. They are at most two a byte.
 pub fn usb_reading_suits()
     ensures suits { (cable : ℕ) (bytes : List ℕ) → suited (signs_of (usb_reading cable bytes)) ≡ true }
     ensures valid { (cable : ℕ) (bytes : List ℕ) → AreValid (signs_of (usb_reading cable bytes)) }
+    ensures few { (cable : ℕ) (bytes : List ℕ) → length (signs_of (usb_reading cable bytes)) ≤ 2 * length bytes }
 {}
 
 /// What is known of a cable at some bytes of a recording stays known, whatever follows.
