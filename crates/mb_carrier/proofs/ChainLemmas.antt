@@ -18,6 +18,7 @@ laws Din =
     record {
       suits = din.suits;
       valid = din.valid;
+      few = din.two_a_byte;
       means = din_written.means;
       one_more = din_written.one_more;
       size = λ marks suits. omega (arith, din_written.size marks);
@@ -28,6 +29,7 @@ laws (Usb cable) =
     record {
       suits = usb.suits cable;
       valid = usb.valid cable;
+      few = usb.few cable;
       means = usb.means cable;
       one_more = usb.one_more cable;
       size = λ marks suits. omega (arith, usb.size cable marks suits);
@@ -82,3 +84,7 @@ through-size first between last bytes =
     let suits = (laws first).suits bytes in
     let valid = (laws first).valid bytes in
     omega (arith, (laws last).size (carried between (marks_of first bytes)) (carried-suits between (marks_of first bytes) suits), carried-length between (marks_of first bytes) suits valid)
+
+pub through-bounded : (first : Spec) (between : List Spec) (last : Spec) (bytes : List ℕ) →
+    length (through first between last bytes) ≤ 1024 * (2 * length bytes + length between) + 1024
+through-bounded first between last bytes = omega (arith, through-size first between last bytes, (laws first).few bytes)

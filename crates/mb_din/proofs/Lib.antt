@@ -1,6 +1,7 @@
 pub mod ByteNews
 pub mod DinMarks
 mod Examples
+pub mod FewMarks
 pub mod NextLaw
 pub mod ReaderLaw
 pub mod Rises

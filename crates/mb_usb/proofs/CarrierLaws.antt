@@ -9,6 +9,7 @@ use Rattle.mb_stream.proofs.Machine.{Rest, read, Clean}
 use Rattle.mb_stream.proofs.Suits.{Suit, Suit-suited, suited-Suit, AreValid-Suit}
 use Rattle.mb_stream.proofs.ReadMarks.{Suit-read}
 use Rattle.mb_stream.proofs.LiteralMarks.{heard_bytes}
+use Rattle.mb_din.proofs.FewMarks.{two_an_entry}
 use Rattle.mb_usb.specs.Running.{usb_at, pending_from}
 use Rattle.mb_usb.specs.Written.{usb_written}
 use Rattle.mb_usb.specs.Reading.{cable_payload, usb_reading, usb_whole, packets, unit_note}
@@ -18,7 +19,7 @@ use Rattle.mb_usb.proofs.WrittenCuts.{cuts, cuts-written, cuts-bytes, length-cut
 use Rattle.mb_usb.proofs.GoodCuts.{AreGood-cuts}
 use Rattle.mb_usb.proofs.HeldBytes.{held_back, denotation-held, length-held}
 use Rattle.mb_usb.proofs.HeldClean.{Clean-held}
-use Rattle.mb_usb.proofs.PayloadMarks.{usb-signs, usb-notes}
+use Rattle.mb_usb.proofs.PayloadMarks.{usb-signs, usb-notes, length-payload}
 
 -- the written list as packets
 written-cuts : (cable : ℕ) (ms : List Sign) → suited ms ≡ true → usb_written cable ms ≡ written cable (cuts [] ms)
@@ -72,3 +73,6 @@ suits cable bytes = suited-Suit (signs_of (usb_reading cable bytes)) (Suit-usb c
 
 pub valid : (cable : ℕ) (bytes : List ℕ) → AreValid (signs_of (usb_reading cable bytes))
 valid cable bytes = AreValid-Suit (signs_of (usb_reading cable bytes)) (Suit-usb cable bytes)
+
+pub few : (cable : ℕ) (bytes : List ℕ) → length (signs_of (usb_reading cable bytes)) ≤ 2 * length bytes
+few cable bytes = omega (arith, ap length (usb-signs cable bytes), two_an_entry (cable_payload cable bytes), length-payload cable bytes)

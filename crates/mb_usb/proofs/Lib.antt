@@ -11,6 +11,7 @@ pub mod Longest
 pub mod Loops
 pub mod PacketFacts
 pub mod OnlyCable
+pub mod OtherCables
 mod PacketPlaces
 pub mod PayloadMarks
 mod Places

@@ -50,7 +50,7 @@ packets_at_from cable at [] = []
 packets_at_from cable at (x ∷ xs) = packet_at cable at x ∷ packets_at_from cable (at + 4) xs
 
 -- a packet has four bytes
-packets-padded : (at head : ℕ) (bs more : List ℕ) → packets_from at ((head ∷ padded bs) ++ more) ≡ record { at = at; head = head; rest = padded bs } ∷ packets_from (at + 4) more
+pub packets-padded : (at head : ℕ) (bs more : List ℕ) → packets_from at ((head ∷ padded bs) ++ more) ≡ record { at = at; head = head; rest = padded bs } ∷ packets_from (at + 4) more
 packets-padded at head [] more = refl
 packets-padded at head (a ∷ []) more = refl
 packets-padded at head (a ∷ b ∷ []) more = refl

@@ -1,5 +1,6 @@
--- The reading of a cable has the marks that are read of its payload's bytes: notes on packets stand beside them.
-use Rattle.std.proofs.Common.{◌≡◌, ℕ, ◌+◌, ◌≤◌, Bool, true, false, ◌==◌, nat_le, if◌then◌else◌, List, [], ◌∷◌, ◌++◌, length, take, flat_map, refl, sym, ap, ap₂, ◌∙◌, arith, length-take, append-nil}
+-- The reading of a cable has the marks that are read of its payload's bytes: notes on packets stand beside them. The payload has at most
+-- as many entries as the recording has bytes.
+use Rattle.std.proofs.Common.{◌≡◌, ℕ, ◌+◌, ◌≤◌, Bool, true, false, ◌==◌, nat_le, if◌then◌else◌, List, [], ◌∷◌, ◌++◌, length, take, flat_map, refl, sym, ap, ap₂, ◌∙◌, arith, length-take, length-append, append-nil}
 use Rattle.std.proofs.lemmas.List.Concat.{flat_map-append}
 use Rattle.mb_message.specs.declared.note.NoteKind.TheVariants.{ReservedCin, CinMismatch}
 use Rattle.mb_stream.specs.Payload.{Entry, Heard, Silent, heard_from}
@@ -10,6 +11,7 @@ use Rattle.mb_stream.specs.Working.{RisesFrom}
 use Rattle.mb_stream.proofs.Machine.{Rest, read, Clean, read-tell}
 use Rattle.mb_stream.proofs.OrderedMarks.{marked, marked-append, signs-beside}
 use Rattle.mb_stream.proofs.LiteralMarks.{AllHeard, heard_bytes, heard_from-all, parts-signs, parts-notes, so_far-signs, so_far-notes, end_part-signs, end_part-notes}
+use Rattle.mb_din.proofs.FewMarks.{length-heard_from}
 use Rattle.mb_usb.specs.Reading.{Packet, cable_of, cin_of, packets_from, packets, used, carried, cable_payload, suits_packet, unit_note, usb_told, usb_so_far, usb_reading}
 
 AllHeard-append : (xs ys : List Entry) → AllHeard xs → AllHeard ys → AllHeard (xs ++ ys)
@@ -56,6 +58,30 @@ payload-rises_from cable at (h ∷ a ∷ b ∷ []) = packet_rises cable at h (a 
 
 pub payload-rises : (cable : ℕ) (bytes : List ℕ) → RisesFrom 0 (cable_payload cable bytes)
 payload-rises cable bytes = payload-rises_from cable 0 bytes
+
+-- what one packet carries, before the payload of those behind it
+length-packet : (cable at head : ℕ) (bs : List ℕ) (es : List Entry) →
+    length ((if cable_of (record { at = at; head = head; rest = bs }) == cable then carried (record { at = at; head = head; rest = bs }) else []) ++ es)
+    ≤ length bs + length es
+length-packet cable at head bs es =
+    let p : Packet = record { at = at; head = head; rest = bs } in
+    let Goal : Bool → Type 0 = λ c. length ((if c then carried p else []) ++ es) ≤ length bs + length es in
+    let taken : List ℕ = take (used (cin_of p)) bs in
+    elim (cable_of p == cable) as Goal [
+      | true ↦ omega (arith, length-append (carried p) es, length-heard_from (at + 1) 0 taken, length-take (used (cin_of p)) bs)
+      | false ↦ omega arith
+    ]
+
+length-payload_from : (cable at : ℕ) (bytes : List ℕ) → length (payload_of cable (packets_from at bytes)) ≤ length bytes
+length-payload_from cable at [] = omega arith
+length-payload_from cable at (h ∷ a ∷ b ∷ c ∷ bs) =
+    omega (arith, length-packet cable at h (a ∷ b ∷ c ∷ []) (payload_of cable (packets_from (at + 4) bs)), length-payload_from cable (at + 4) bs)
+length-payload_from cable at (h ∷ []) = omega (arith, length-packet cable at h [] [])
+length-payload_from cable at (h ∷ a ∷ []) = omega (arith, length-packet cable at h (a ∷ []) [])
+length-payload_from cable at (h ∷ a ∷ b ∷ []) = omega (arith, length-packet cable at h (a ∷ b ∷ []) [])
+
+pub length-payload : (cable : ℕ) (bytes : List ℕ) → length (cable_payload cable bytes) ≤ length bytes
+length-payload cable bytes = length-payload_from cable 0 bytes
 
 payload-heard_of : (cable : ℕ) (ps : List Packet) → AllHeard (payload_of cable ps)
 payload-heard_of cable [] = tt

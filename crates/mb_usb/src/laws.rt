@@ -7,7 +7,7 @@ ghost use Rattle.mb_stream.specs.Reading.{notes_of, signs_of};
 ghost use Rattle.mb_stream.specs.Standing.{AreValid, suited, is_open};
 ghost use Rattle.mb_din.specs.Reader.{IsFront};
 ghost use Rattle.mb_usb.specs.Cables.{cable_so_far};
-ghost use Rattle.mb_usb.specs.Reading.{usb_reading, usb_whole};
+ghost use Rattle.mb_usb.specs.Reading.{cable_payload, usb_reading, usb_whole};
 ghost use Rattle.mb_usb.specs.Running.{usb_at, usb_from, pending_from};
 ghost use Rattle.mb_usb.specs.Written.{usb_live, usb_written};
 
@@ -22,7 +22,7 @@ pub fn usb_writing()
 {}
 
 /// What is read of a cable's written marks means what they mean, is at most one mark more, and has no note. It is whole
-/// packets, of at most four bytes a mark.
+/// packets, of at most four bytes a mark. No other cable carries anything of it, whatever the marks.
 pub fn usb_carries()
     ensures means { (cable : ℕ) (marks : List Sign) → suited marks ≡ true → AreValid marks →
         denotation (signs_of (usb_reading cable (usb_written cable marks))) ≡ denotation marks }
@@ -32,12 +32,14 @@ pub fn usb_carries()
     ensures clean { (cable : ℕ) (marks : List Sign) → suited marks ≡ true → AreValid marks →
         notes_of (usb_reading cable (usb_written cable marks)) ≡ [] }
     ensures whole { (cable : ℕ) (marks : List Sign) → suited marks ≡ true → usb_whole (usb_written cable marks) ≡ true }
+    ensures alone { (cable other : ℕ) (marks : List Sign) → (other ≡ cable → ⊥) → cable_payload other (usb_written cable marks) ≡ [] }
 {}
 
-/// The marks of the reading of any bytes are valid and stand where a stream can have them.
+/// The marks of the reading of any bytes are valid and stand where a stream can have them. They are at most two a byte.
 pub fn usb_reading_suits()
     ensures suits { (cable : ℕ) (bytes : List ℕ) → suited (signs_of (usb_reading cable bytes)) ≡ true }
     ensures valid { (cable : ℕ) (bytes : List ℕ) → AreValid (signs_of (usb_reading cable bytes)) }
+    ensures few { (cable : ℕ) (bytes : List ℕ) → length (signs_of (usb_reading cable bytes)) ≤ 2 * length bytes }
 {}
 
 /// What is known of a cable at some bytes of a recording stays known, whatever follows.

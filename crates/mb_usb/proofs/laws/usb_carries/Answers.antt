@@ -1,4 +1,5 @@
 use Rattle.mb_usb.proofs.CarrierLaws as law
+use Rattle.mb_usb.proofs.OtherCables.{alone}
 use Rattle.mb_usb.proofs.laws.usb_carries.Goals as goal
 
 pub returns-clause-means : goal.returns-clause-means
@@ -15,3 +16,6 @@ returns-clause-clean c = law.clean
 
 pub returns-clause-whole : goal.returns-clause-whole
 returns-clause-whole c = law.whole
+
+pub returns-clause-alone : goal.returns-clause-alone
+returns-clause-alone c = alone

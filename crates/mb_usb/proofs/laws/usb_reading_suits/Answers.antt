@@ -6,3 +6,6 @@ returns-clause-suits c = law.suits
 
 pub returns-clause-valid : goal.returns-clause-valid
 returns-clause-valid c = law.valid
+
+pub returns-clause-few : goal.returns-clause-few
+returns-clause-few c = law.few
