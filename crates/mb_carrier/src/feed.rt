@@ -30,6 +30,7 @@ pub fn feed_pair<R: EventReader, W: EventWriter, K: Out>(
     ensures offset { OnOk result (R.offset reader.new ≡ R.offset reader.old + length piece.now) }
     ensures ready { K.ready out.new }
     ensures cause { HasCause (K.refusals out.old) (K.refusals out.new) result }
+    ensures sound { OnOk result (K.refusals out.new ≡ K.refusals out.old) }
     ensures fed { OnOk result (Fed (R.spec reader.old) (W.spec writer.old) (R.stands reader.old) (W.stands writer.old)
         (R.stands reader.new) (W.stands writer.new) piece.now (λ given. K.took out.old given out.new)) }
     ensures halted { OnErr result (FedHalted (R.spec reader.old) (W.spec writer.old) (R.stands reader.old) (W.stands writer.old)
@@ -57,6 +58,7 @@ pub fn finish_pair<R: EventReader, W: EventWriter, K: Out>(
     ensures writes { W.spec writer.new ≡ W.spec writer.old }
     ensures ready { K.ready out.new }
     ensures cause { HasCause (K.refusals out.old) (K.refusals out.new) result }
+    ensures sound { OnOk result (K.refusals out.new ≡ K.refusals out.old) }
     ensures ended { OnOk result (Ended (R.spec reader.old) (W.spec writer.old) (R.stands reader.old) (W.stands writer.old)
         (λ given. K.took out.old given out.new)) }
     ensures halted { OnErr result (EndHalted (R.spec reader.old) (W.spec writer.old) (R.stands reader.old) (W.stands writer.old)
@@ -84,6 +86,7 @@ fn put_last<W: EventWriter, K: Out>(
     ensures room { OnOk result (array_vec_len held.new + ROOM ≤ 1024) }
     ensures ready { K.ready out.new }
     ensures cause { HasCause (K.refusals out.old) (K.refusals out.new) result }
+    ensures sound { OnOk result (K.refusals out.new ≡ K.refusals out.old) }
     ensures gave { OnOk result (Gave (live (W.spec writer.old)) (W.stands writer.old) (W.stands writer.new) (told_signs (answer last.entry))
         held.old.items held.new.items (λ given. K.took out.old given out.new)) }
     ensures halted { OnErr result (Halted (live (W.spec writer.old)) (W.stands writer.old) (told_signs (answer last.entry))
@@ -110,6 +113,7 @@ fn put_seen<W: EventWriter, K: Out>(
     ensures room { OnOk result (array_vec_len held.new + ROOM ≤ 1024) }
     ensures ready { K.ready out.new }
     ensures cause { HasCause (K.refusals out.old) (K.refusals out.new) result }
+    ensures sound { OnOk result (K.refusals out.new ≡ K.refusals out.old) }
     ensures gave { OnOk result (Gave (live (W.spec writer.old)) (W.stands writer.old) (W.stands writer.new) (seen_signs seen.entry)
         held.old.items held.new.items (λ given. K.took out.old given out.new)) }
     ensures halted { OnErr result (Halted (live (W.spec writer.old)) (W.stands writer.old) (seen_signs seen.entry)
@@ -136,6 +140,7 @@ fn put_event<W: EventWriter, K: Out>(
     ensures room { OnOk result (array_vec_len held.new + ROOM ≤ 1024) }
     ensures ready { K.ready out.new }
     ensures cause { HasCause (K.refusals out.old) (K.refusals out.new) result }
+    ensures sound { OnOk result (K.refusals out.new ≡ K.refusals out.old) }
     ensures gave { OnOk result (Gave (live (W.spec writer.old)) (W.stands writer.old) (W.stands writer.new) (signs_of_event ev.entry)
         held.old.items held.new.items (λ given. K.took out.old given out.new)) }
     ensures halted { OnErr result (Halted (live (W.spec writer.old)) (W.stands writer.old) (signs_of_event ev.entry)
@@ -162,6 +167,7 @@ fn put_run<W: EventWriter, K: Out>(
     ensures room { OnOk result (array_vec_len held.new + ROOM ≤ 1024) }
     ensures ready { K.ready out.new }
     ensures cause { HasCause (K.refusals out.old) (K.refusals out.new) result }
+    ensures sound { OnOk result (K.refusals out.new ≡ K.refusals out.old) }
     ensures gave { OnOk result (Gave (live (W.spec writer.old)) (W.stands writer.old) (W.stands writer.new) (map ByteSign bytes.now)
         held.old.items held.new.items (λ given. K.took out.old given out.new)) }
     ensures halted { OnErr result (Halted (live (W.spec writer.old)) (W.stands writer.old) (map ByteSign bytes.now)
@@ -195,6 +201,7 @@ fn put_piece<W: EventWriter, K: Out>(
     ensures room { OnOk result (array_vec_len held.new + ROOM ≤ 1024) }
     ensures ready { K.ready out.new }
     ensures cause { HasCause (K.refusals out.old) (K.refusals out.new) result }
+    ensures sound { OnOk result (K.refusals out.new ≡ K.refusals out.old) }
     ensures gave { OnOk result (Gave (live (W.spec writer.old)) (W.stands writer.old) (W.stands writer.new) (signs_of_event ev.entry)
         held.old.items held.new.items (λ given. K.took out.old given out.new)) }
     ensures halted { OnErr result (Halted (live (W.spec writer.old)) (W.stands writer.old) (signs_of_event ev.entry)
@@ -210,6 +217,7 @@ fn make_room<K: Out>(held: &mut Buf, out: &mut K) -> Result<(), Refused>
     requires { K.ready out.old }
     ensures ready { K.ready out.new }
     ensures cause { HasCause (K.refusals out.old) (K.refusals out.new) result }
+    ensures sound { OnOk result (K.refusals out.new ≡ K.refusals out.old) }
     ensures room { OnOk result (array_vec_len held.new + ROOM ≤ 1024) }
     ensures ok { OnOk result ((given : List ℕ) × K.took out.old given out.new × (given ++ held.new.items ≡ held.old.items)) }
     ensures err { OnErr result (TookFront K.took out.old out.new held.old.items) }
@@ -226,6 +234,7 @@ fn hand_on<K: Out>(held: &mut Buf, out: &mut K) -> Result<(), Refused>
     requires { K.ready out.old }
     ensures ready { K.ready out.new }
     ensures cause { HasCause (K.refusals out.old) (K.refusals out.new) result }
+    ensures sound { OnOk result (K.refusals out.new ≡ K.refusals out.old) }
     ensures empty { OnOk result (held.new.items ≡ []) }
     ensures ok { OnOk result (K.took out.old held.old.items out.new) }
     ensures err { OnErr result (TookFront K.took out.old out.new held.old.items) }

@@ -27,6 +27,7 @@ pub fn feed_hop<K: Out>(
     ensures offset { OnOk result (reader_offset reader.new ≡ reader_offset reader.old + length piece.now) }
     ensures ready { K.ready out.new }
     ensures cause { HasCause (K.refusals out.old) (K.refusals out.new) result }
+    ensures sound { OnOk result (K.refusals out.new ≡ K.refusals out.old) }
     ensures fed { OnOk result (Fed (reader_spec reader.old) (writer_spec writer.old) (ReaderStands reader.old) (WriterStands writer.old)
         (ReaderStands reader.new) (WriterStands writer.new) piece.now (λ given. K.took out.old given out.new)) }
     ensures halted { OnErr result (FedHalted (reader_spec reader.old) (writer_spec writer.old) (ReaderStands reader.old) (WriterStands writer.old)
@@ -52,6 +53,7 @@ pub fn finish_hop<K: Out>(
     ensures writes { writer_spec writer.new ≡ writer_spec writer.old }
     ensures ready { K.ready out.new }
     ensures cause { HasCause (K.refusals out.old) (K.refusals out.new) result }
+    ensures sound { OnOk result (K.refusals out.new ≡ K.refusals out.old) }
     ensures ended { OnOk result (Ended (reader_spec reader.old) (writer_spec writer.old) (ReaderStands reader.old) (WriterStands writer.old)
         (λ given. K.took out.old given out.new)) }
     ensures halted { OnErr result (EndHalted (reader_spec reader.old) (writer_spec writer.old) (ReaderStands reader.old) (WriterStands writer.old)
@@ -81,6 +83,7 @@ pub fn list_hop<K: Out>(
     ensures offset { OnOk result (reader_offset reader.new ≡ reader_offset reader.old + length piece.now) }
     ensures ready { K.ready out.new }
     ensures cause { HasCause (K.refusals out.old) (K.refusals out.new) result }
+    ensures sound { OnOk result (K.refusals out.new ≡ K.refusals out.old) }
     ensures fed { OnOk result (ListFed (reader_spec reader.old) traced (ReaderStands reader.old) (ReaderStands reader.new) noted.old noted.new piece.now (λ given. K.took out.old given out.new)) }
     ensures halted { OnErr result (ListHalted (reader_spec reader.old) traced (ReaderStands reader.old) noted.old piece.now (λ given. K.took out.old given out.new)) }
 {
@@ -102,6 +105,7 @@ pub fn list_end<K: Out>(
     ensures reads { reader_spec reader.new ≡ reader_spec reader.old }
     ensures ready { K.ready out.new }
     ensures cause { HasCause (K.refusals out.old) (K.refusals out.new) result }
+    ensures sound { OnOk result (K.refusals out.new ≡ K.refusals out.old) }
     ensures ended { OnOk result (ListEnded (reader_spec reader.old) traced (ReaderStands reader.old) noted.old noted.new (λ given. K.took out.old given out.new)) }
     ensures halted { OnErr result (ListEndHalted (reader_spec reader.old) traced (ReaderStands reader.old) noted.old (λ given. K.took out.old given out.new)) }
 {

@@ -66,6 +66,7 @@ pub fn bridge<D: Desk>(alloc: Global, words: &Args, desk: &mut D) -> u8
     ensures read_fault { result ≡ 3 → Rose (D.read_faults desk.old) (D.read_faults desk.new) }
     ensures read_fault_told { (result ≡ 3 → ⊥) → D.read_faults desk.new ≡ D.read_faults desk.old }
     ensures write_fault { result ≡ 4 → Rose (D.write_faults desk.old) (D.write_faults desk.new) }
+    ensures write_fault_told { (result ≡ 0) ⊎ (result ≡ 1) → D.write_faults desk.new ≡ D.write_faults desk.old }
 
     // It answers 0 for every whole input that is converted.
     ensures complete { (first : Spec) (between : List Spec) (last : Spec) → IsTrue D.tells → Means words.now (Converting first between last) →
@@ -122,6 +123,7 @@ pub fn bridge_within<D: Desk>(alloc: Global, words: &Args, desk: &mut D, limit: 
     ensures read_fault { result ≡ 3 → Rose (D.read_faults desk.old) (D.read_faults desk.new) }
     ensures read_fault_told { (result ≡ 3 → ⊥) → D.read_faults desk.new ≡ D.read_faults desk.old }
     ensures write_fault { result ≡ 4 → Rose (D.write_faults desk.old) (D.write_faults desk.new) }
+    ensures write_fault_told { (result ≡ 0) ⊎ (result ≡ 1) → D.write_faults desk.new ≡ D.write_faults desk.old }
 
     // It answers 0 for every whole input that is converted.
     ensures complete { (first : Spec) (between : List Spec) (last : Spec) → IsTrue D.tells → Means words.now (Converting first between last) →
@@ -147,6 +149,7 @@ fn run<D: Desk>(alloc: Global, words: &Args, desk: &mut D, limit: u64) -> Status
     ensures memory { wants_memory result ≡ false }
     ensures fault { HasFault (D.read_faults desk.old) (D.read_faults desk.new) (D.write_faults desk.old) (D.write_faults desk.new) result }
     ensures told { (result ≡ status.ReadFault → ⊥) → D.read_faults desk.new ≡ D.read_faults desk.old }
+    ensures write_told { (result ≡ status.WriteFault → ⊥) → D.write_faults desk.new ≡ D.write_faults desk.old }
     ensures reads { D.read_faults desk.old ≤ D.read_faults desk.new }
     ensures writes { D.write_faults desk.old ≤ D.write_faults desk.new }
 {

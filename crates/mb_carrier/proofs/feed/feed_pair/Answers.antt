@@ -12,7 +12,7 @@ events-init g c =
       offset = refl;
       room = omega (arith, ap length c.new-held.ensures);
       ready = c.requires.ready;
-      later = omega arith;
+      sound = refl;
       put = put-start _ _ _ _ _ _ _
           (record { stays = g.met.R.EventReader.stays c.args.reader.now; ends = g.met.R.EventReader.ends c.args.reader.now; suits = g.met.R.EventReader.suits c.args.reader.now })
           c.new-held.ensures (g.met.K.Out.nothing c.args.out.now);
@@ -38,7 +38,7 @@ events-preserved g c =
       offset = c.next.ensures.end ∙ c.events.invariant.offset;
       room = c.in_default-put_seen.ensures.room;
       ready = c.put_seen.ensures.ready;
-      later = omega (arith, c.put_seen.ensures.cause.later);
+      sound = c.in_default-put_seen.ensures.sound ∙ c.events.invariant.sound;
       put = put-step _ _ _ _ _ _ _ _ _ _ _ _ _ _ _ _ _ _ c.in-Some.seen (λ x y. g.met.K.Out.both _ _ _ x y)
           c.events.invariant.reads c.events.invariant.writes c.events.invariant.put c.in-Some.ensures.goes c.in_default-put_seen.ensures.gave;
     }

@@ -15,7 +15,7 @@ invariant-events g l =
       offset : R.offset l.reader + length l.rest ≡ R.offset l.initial.reader + length l.piece;
       room : array_vec_len l.held + 24 ≤ 1024;
       ready : K.ready l.out;
-      later : K.refusals l.initial.out ≤ K.refusals l.out;
+      sound : K.refusals l.out ≡ K.refusals l.initial.out;
       put : Put (R.spec l.initial.reader) (live (W.spec l.initial.writer)) (R.stands l.initial.reader) (W.stands l.initial.writer) (R.stands l.reader) (W.stands l.writer) l.piece l.rest l.held.items (λ given. K.took l.initial.out given l.out);
     }
 

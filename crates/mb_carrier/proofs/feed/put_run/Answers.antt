@@ -10,7 +10,7 @@ pieces-init g c =
       in_sysex = refl;
       room = c.requires.room;
       ready = c.requires.ready;
-      later = omega arith;
+      sound = refl;
       gave = ([], refl, gave-none _ _ _ _ (g.met.K.Out.nothing c.args.out.now));
     }
 
@@ -26,7 +26,7 @@ pieces-preserved g c =
       in_sysex = c.put_piece.ensures.in_sysex ∙ c.pieces.invariant.in_sysex;
       room = c.in_default.ensures.room;
       ready = c.put_piece.ensures.ready;
-      later = omega (arith, c.put_piece.ensures.cause.later);
+      sound = c.in_default.ensures.sound ∙ c.pieces.invariant.sound;
       gave = run-step _ _ _ _ _ _ _ _ c.split_at.result.1.now _ _ _ _ _ _ (λ x y. g.met.K.Out.both _ _ _ x y) c.pieces.invariant.spec c.pieces.invariant.gave
           (cut_at c.min.result _ _ _ c.split_at.ensures.front c.split_at.ensures.back) c.in_default.ensures.gave;
     }

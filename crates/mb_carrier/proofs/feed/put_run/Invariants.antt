@@ -15,7 +15,7 @@ invariant-pieces g l =
       in_sysex : W.in_sysex l.writer ≡ W.in_sysex l.initial.writer;
       room : array_vec_len l.held + 24 ≤ 1024;
       ready : K.ready l.out;
-      later : K.refusals l.initial.out ≤ K.refusals l.out;
+      sound : K.refusals l.out ≡ K.refusals l.initial.out;
       gave : (done : List ℕ) × (l.bytes ≡ done ++ l.rest) × Gave (live (W.spec l.initial.writer)) (W.stands l.initial.writer) (W.stands l.writer) (map ByteSign done) l.initial.held.items l.held.items (λ given. K.took l.initial.out given l.out);
     }
 

@@ -36,6 +36,6 @@ pieces-preserved g c =
       offset = grind (arith, common_steps, c.in_default-feed.ensures.offset, piece-size);
       reads_same = c.feed.ensures.read_faults ∙ (c.in-Ok.ensures.sound ∙ inv.reads_same);
       reads_later = omega (arith, inv.reads_later, c.read.ensures.cause.later, c.feed.ensures.read_faults);
-      writes_later = omega (arith, inv.writes_later, c.feed.ensures.cause.later, c.read.ensures.write_faults);
+      writes_same = c.in_default-feed.ensures.sound ∙ (c.read.ensures.write_faults ∙ inv.writes_same);
       fed = so_far-fed _ _ _ _ _ _ _ _ _ _ fed.0 _ _ _ c.in-Ok.count piece fed.1 (piece-size _ _ c.in-Ok.count c.in-Ok.ensures.bound) fed.2 fed.3 c.in-Ok.ensures.contents (piece-is _ _ c.in-Ok.count c.in-Ok.ensures.bound);
     }
