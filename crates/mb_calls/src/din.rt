@@ -2,7 +2,7 @@
 
 ghost use Rattle.std.specs.Prelude.{◌≡◌, ◌+◌, ◌<◌, ◌^◌, length};
 
-use crate::text::{Text, put_seen};
+use crate::text::{Runs, Text, put_none, put_seen};
 use mb_din::{DinReader, DinWriter};
 use mb_message::{Buf, Ev, Rt, Short};
 use std::test::Fail;
@@ -23,13 +23,14 @@ const TOLD: &[(&[u8], &str)] = &[
     ),
 ];
 
-fn read_piece(reader: &mut DinReader, piece: &[u8], text: &mut Text)
+/// Appends what a piece tells, up to the answer of nothing.
+fn read_piece(reader: &mut DinReader, piece: &[u8], runs: Runs, text: &mut Text)
     requires { reader.old.offset + length piece.now < 2 ^ 63 }
     ensures { reader.new.offset ≡ reader.old.offset + length piece.now }
 {
     let mut rest = piece;
     'told: while let Some(seen) = reader.next(&mut rest) {
-        put_seen(0, seen, text);
+        put_seen(0, seen, runs, text);
     }
 }
 
@@ -39,10 +40,10 @@ fn told_cut_at(bytes: &[u8], cut: usize) -> Text
     let mut reader = DinReader::new();
     let mut text = Text::new();
     let (front, back) = bytes.split_at(bytes.len().min(cut));
-    read_piece(&mut reader, front, &mut text);
-    read_piece(&mut reader, back, &mut text);
+    read_piece(&mut reader, front, Runs::ByteByByte, &mut text);
+    read_piece(&mut reader, back, Runs::ByteByByte, &mut text);
     if let Some(seen) = reader.finish() {
-        put_seen(0, seen, &mut text);
+        put_seen(0, seen, Runs::ByteByByte, &mut text);
     }
     text
 }
@@ -59,19 +60,55 @@ fn a_line_is_read_cut_at_each_place(rt: HostRuntime) {
     }
 }
 
+/// A piece, the next one, and what they tell with each run as it is lent.
+const LENT: &[(&[u8], &[u8], &str)] = &[
+    (
+        &[0xf0, 1, 2, 0xf8, 3, 0xf7],
+        &[],
+        "0 open\nrun 01 02\n0 rt F8\nrun 03\n0 end\nnone\nnone\n",
+    ),
+    (
+        &[0xf0, 1],
+        &[2, 0xf8, 3, 0xf7],
+        "0 open\nrun 01\nnone\nrun 02\n0 rt F8\nrun 03\n0 end\nnone\n",
+    ),
+];
+
+fn lent_in_pieces(front: &[u8], back: &[u8]) -> Text
+    requires { length front.now + length back.now < 2 ^ 63 }
+{
+    let mut reader = DinReader::new();
+    let mut text = Text::new();
+    read_piece(&mut reader, front, Runs::AsLent, &mut text);
+    put_none(&mut text);
+    read_piece(&mut reader, back, Runs::AsLent, &mut text);
+    put_none(&mut text);
+    text
+}
+
+#[test]
+fn runs_are_lent_as_long_as_they_stand(rt: HostRuntime) {
+    for (front, back, told) in LENT {
+        assert!(rt; front.len() + back.len() < 100);
+        let text = lent_in_pieces(front, back);
+        assert!(rt; text.as_slice() == told.as_bytes(), "{told}");
+    }
+}
+
 #[test]
 fn a_reader_is_placed_and_resumed(rt: HostRuntime) {
     let mut reader = DinReader::new();
     let mut text = Text::new();
     reader.place(9);
-    read_piece(&mut reader, &[0x3c, 0xf0], &mut text);
+    read_piece(&mut reader, &[0x3c, 0xf0], Runs::ByteByByte, &mut text);
     assert!(rt; reader.in_sysex() && !reader.may_run());
     if let Some(seen) = reader.finish() {
-        put_seen(0, seen, &mut text);
+        put_seen(0, seen, Runs::ByteByByte, &mut text);
     }
+    assert!(rt; reader.finish().is_none());
     reader.resume(0xc1);
     assert!(rt; reader.may_run() && !reader.in_sysex());
-    read_piece(&mut reader, &[5], &mut text);
+    read_piece(&mut reader, &[5], Runs::ByteByByte, &mut text);
     assert!(rt;
         text.as_slice() == b"note 9 stray-data\n0 open\n0 abort\n0 short C1 05\n".as_slice()
     );
@@ -83,19 +120,18 @@ fn what_stands_whole_is_read_in_one_go(rt: HostRuntime) {
     let mut text = Text::new();
     assert!(rt; reader.read_two(1, 0xc1, 0x80).is_none());
     if let Some(seen) = reader.read_two(1, 0xc1, 5) {
-        put_seen(0, seen, &mut text);
+        put_seen(0, seen, Runs::AsLent, &mut text);
     }
     if let Some(seen) = reader.read_three(5, 0x90, 0x3c, 0x64) {
-        put_seen(0, seen, &mut text);
+        put_seen(0, seen, Runs::AsLent, &mut text);
     }
-    put_seen(0, reader.read_realtime(9, 0xf8), &mut text);
+    put_seen(0, reader.read_realtime(9, 0xf8), Runs::AsLent, &mut text);
     assert!(rt; reader.read_run(13, &[1, 2, 3]).is_none());
-    read_piece(&mut reader, &[0xf0], &mut text);
+    read_piece(&mut reader, &[0xf0], Runs::AsLent, &mut text);
     if let Some(seen) = reader.read_run(17, &[1, 2, 3]) {
-        put_seen(0, seen, &mut text);
+        put_seen(0, seen, Runs::AsLent, &mut text);
     }
-    let whole =
-        b"0 short C1 05\n0 short 90 3C 64\n0 rt F8\n0 open\n0 data 01\n0 data 02\n0 data 03\n";
+    let whole = b"0 short C1 05\n0 short 90 3C 64\n0 rt F8\n0 open\nrun 01 02 03\n";
     assert!(rt; text.as_slice() == whole.as_slice());
 }
 

@@ -78,24 +78,33 @@ fn a_note_waits_for_the_end_of_anothers_sysex(rt: HostRuntime) -> Result<(), Fai
     Ok(())
 }
 
+/// Sources 1 and 2 offer a note of one arrival while a SysEx of source 0 is open: which of them first, and how the SysEx ends.
+fn lower_passes_first(
+    rt: &impl Abort,
+    router: &mut Router,
+    first: u8,
+    end: Mark,
+) -> Result<(), Fail> {
+    let note = Mark::Short(Short::new(0x90, 0x3c, 0x64).ok_or("a note")?);
+    offer(rt, router, 0, 0, Mark::Open)?;
+    assert!(rt; passes(router, &[(0, 0, Mark::Open)]));
+    offer(rt, router, first, 1, note)?;
+    assert!(rt; passes(router, &[]));
+    offer(rt, router, 3u8.wrapping_sub(first), 1, note)?;
+    assert!(rt; passes(router, &[]));
+    offer(rt, router, 0, 2, end)?;
+    assert!(rt; passes(router, &[(0, 2, end), (1, 1, note), (2, 1, note)]));
+    Ok(())
+}
+
 #[test]
 fn of_one_arrival_the_lower_source_passes_first(rt: HostRuntime) -> Result<(), Fail> {
-    let note = Mark::Short(Short::new(0x90, 0x3c, 0x64).ok_or("a note")?);
-    let other = Mark::Short(Short::new(0x91, 0x3c, 0x64).ok_or("a note")?);
-    let mut router = Router::open(rt.alloc(), 3, 1, &[(0, 0), (1, 0), (2, 0)])?;
-    offer(&rt, &mut router, 0, 0, Mark::Open)?;
-    assert!(rt; passes(&mut router, &[(0, 0, Mark::Open)]));
-    offer(&rt, &mut router, 2, 1, other)?;
-    assert!(rt; passes(&mut router, &[]));
-    offer(&rt, &mut router, 1, 1, note)?;
-    assert!(rt; passes(&mut router, &[]));
-    offer(&rt, &mut router, 0, 2, Mark::Abort)?;
-    assert!(rt;
-        passes(
-            &mut router,
-            &[(0, 2, Mark::Abort), (1, 1, note), (2, 1, other)]
-        )
-    );
+    for first in [1, 2] {
+        for end in [Mark::End, Mark::Abort] {
+            let mut router = Router::open(rt.alloc(), 3, 1, &[(0, 0), (1, 0), (2, 0)])?;
+            lower_passes_first(&rt, &mut router, first, end)?;
+        }
+    }
     Ok(())
 }
 

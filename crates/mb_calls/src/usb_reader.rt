@@ -2,18 +2,19 @@
 
 ghost use Rattle.std.specs.Prelude.{◌≡◌, ◌+◌, ◌<◌, ◌^◌, length};
 
-use crate::text::{Text, put_mark, put_note, put_seen};
+use crate::text::{Runs, Text, put_mark, put_none, put_note, put_seen};
 use mb_message::{Buf, Mark, PortSeen, Short};
 use mb_usb::{CableReader, UsbReader};
 
-fn read_piece(reader: &mut UsbReader, piece: &[u8], text: &mut Text)
+/// Appends what a piece tells, up to the answer of nothing.
+fn read_piece(reader: &mut UsbReader, piece: &[u8], runs: Runs, text: &mut Text)
     requires { reader.old.packet.offset + length piece.now < 2 ^ 63 }
     ensures { reader.new.packet.offset ≡ reader.old.packet.offset + length piece.now }
 {
     let mut rest = piece;
     'told: while let Some(seen) = reader.next(&mut rest) {
         match seen {
-            PortSeen::Port(cable, seen) => put_seen(cable, seen, text),
+            PortSeen::Port(cable, seen) => put_seen(cable, seen, runs, text),
             PortSeen::Unit(note) => put_note(note, text),
         }
     }
@@ -28,7 +29,7 @@ fn told_in_pieces(bytes: &[u8], size: usize) -> Text
     let mut rest = bytes;
     'pieces: while !rest.is_empty() {
         let (piece, tail) = rest.split_at(rest.len().min(size));
-        read_piece(&mut reader, piece, &mut text);
+        read_piece(&mut reader, piece, Runs::ByteByByte, &mut text);
         rest = tail;
     }
     text
@@ -40,8 +41,8 @@ fn told_cut_at(bytes: &[u8], cut: usize) -> Text
     let mut reader = UsbReader::new();
     let mut text = Text::new();
     let (front, back) = bytes.split_at(bytes.len().min(cut));
-    read_piece(&mut reader, front, &mut text);
-    read_piece(&mut reader, back, &mut text);
+    read_piece(&mut reader, front, Runs::ByteByByte, &mut text);
+    read_piece(&mut reader, back, Runs::ByteByByte, &mut text);
     text
 }
 
@@ -85,14 +86,25 @@ fn packets_are_read_cut_at_each_place(rt: HostRuntime) {
 }
 
 #[test]
+fn runs_are_lent_packet_by_packet(rt: HostRuntime) {
+    let mut reader = UsbReader::new();
+    let mut text = Text::new();
+    let packets = &[0x04, 0xf0, 1, 2, 0x04, 3, 4, 5];
+    read_piece(&mut reader, packets, Runs::AsLent, &mut text);
+    put_none(&mut text);
+    assert!(rt; text.as_slice() == b"0 open\nrun 01 02\nrun 03 04 05\nnone\n".as_slice());
+}
+
+#[test]
 fn an_unfinished_packet_is_finished_on_its_cable(rt: HostRuntime) {
     let mut reader = UsbReader::new();
     let mut text = Text::new();
-    read_piece(&mut reader, &[0x04, 0xf0, 1, 2, 0x09, 0x90], &mut text);
+    let packets = &[0x04, 0xf0, 1, 2, 0x09, 0x90];
+    read_piece(&mut reader, packets, Runs::ByteByByte, &mut text);
     assert_eq!(rt; reader.partial(), 2);
     assert!(rt; reader.finish_port(1).is_none());
     if let Some(seen) = reader.finish_port(0) {
-        put_seen(0, seen, &mut text);
+        put_seen(0, seen, Runs::ByteByByte, &mut text);
     }
     assert!(rt; reader.finish_port(0).is_none());
     assert!(rt; text.as_slice().ends_with(b"0 abort\nnote 5 truncated\n"));
@@ -103,7 +115,7 @@ fn read_cable(reader: &mut CableReader, piece: &[u8], text: &mut Text)
 {
     let mut rest = piece;
     'told: while let Some(seen) = reader.next(&mut rest) {
-        put_seen(0, seen, text);
+        put_seen(0, seen, Runs::ByteByByte, text);
     }
 }
 

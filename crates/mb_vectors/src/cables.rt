@@ -2,7 +2,7 @@
 
 ghost use Rattle.std.specs.Prelude.{◌<◌};
 
-use crate::row::{ROOM, Row, desk, run, run_at};
+use crate::row::{Row, run, said_at};
 use mb_top::LIMIT;
 use std::test::Fail;
 
@@ -66,6 +66,20 @@ const CONVERTED: &[Cable<'_>] = &[
         0,
     ),
     (
+        "a packet of zeros carries nothing",
+        &["convert", "usb:0", "din"],
+        &[0, 0, 0, 0],
+        &[],
+        0,
+    ),
+    (
+        "a tune request under the number of a dump's last byte",
+        &["convert", "usb:0", "din"],
+        &[0x05, 0xf6, 0, 0],
+        &[0xf6],
+        0,
+    ),
+    (
         "running data under the number of a dump that goes on",
         &["convert", "usb:0", "din"],
         &[
@@ -88,6 +102,27 @@ const CONVERTED: &[Cable<'_>] = &[
         &["convert", "usb:0", "din"],
         &[0x09, 0x90, 0x3c, 0x64, 0x04, 0xf0, 0x01],
         &[0x90, 0x3c, 0x64, 0xf0, 0x01],
+        5,
+    ),
+    (
+        "cut behind a packet's first byte",
+        &["convert", "usb:0", "din"],
+        &[0x09, 0x90, 0x3c, 0x64, 0x09],
+        &[0x90, 0x3c, 0x64],
+        5,
+    ),
+    (
+        "cut behind a packet's second byte",
+        &["convert", "usb:0", "din"],
+        &[0x09, 0x90, 0x3c, 0x64, 0x09, 0x90],
+        &[0x90, 0x3c, 0x64],
+        5,
+    ),
+    (
+        "cut behind a packet's third byte",
+        &["convert", "usb:0", "din"],
+        &[0x09, 0x90, 0x3c, 0x64, 0x09, 0x90, 0x40],
+        &[0x90, 0x3c, 0x64],
         5,
     ),
 ];
@@ -115,6 +150,27 @@ const LISTED: &[Cable<'_>] = &[
         &[0x09, 0x90, 0x3c, 0x64, 0x08, 0x90, 0x3c, 0x64],
         b"4 cin-mismatch\n",
         1,
+    ),
+    (
+        "a number that doesn't suit, in the first packet",
+        &["check", "usb:0"],
+        &[0x08, 0x90, 0x3c, 0x64],
+        b"0 cin-mismatch\n",
+        1,
+    ),
+    (
+        "zeros have a reserved number",
+        &["check", "usb:0"],
+        &[0, 0, 0, 0],
+        b"0 reserved-cin\n",
+        1,
+    ),
+    (
+        "a tune request suits the number of a dump's last byte",
+        &["check", "usb:0"],
+        &[0x05, 0xf6, 0, 0],
+        b"",
+        0,
     ),
     (
         "a packet's note stands behind what its last byte tells",
@@ -156,6 +212,7 @@ fn a_cable_is_read_in_any_cutting(rt: HostRuntime) -> Result<(), Fail> {
                 input,
                 output,
                 status: *status,
+                text: said_at(*status),
             };
             for piece in [1, 2, 3, 5, 512] {
                 run(&rt, rt.alloc(), &row, piece, LIMIT)?;
@@ -204,8 +261,9 @@ fn sixteen_cables_run_side_by_side(rt: HostRuntime) -> Result<(), Fail> {
                 0x00,
             ],
             status: 0,
+            text: "",
         };
-        for piece in [3, 512] {
+        for piece in [1, 2, 3, 5, 512] {
             run(&rt, rt.alloc(), &row, piece, LIMIT)?;
         }
     }
@@ -216,22 +274,3 @@ const SPECS: &[&str] = &[
     "usb:0", "usb:1", "usb:2", "usb:3", "usb:4", "usb:5", "usb:6", "usb:7", "usb:8", "usb:9",
     "usb:10", "usb:11", "usb:12", "usb:13", "usb:14", "usb:15",
 ];
-
-/// An input that stops at each place inside a packet: status 5, its text, and what stands before it.
-#[test]
-fn a_recording_that_stops_inside_a_packet_is_cut(rt: HostRuntime) -> Result<(), Fail> {
-    let packets = &[0x09, 0x90, 0x3c, 0x64, 0x09, 0x90, 0x40, 0x64];
-    for end in 5..8 {
-        let row = Row {
-            shows: "a packet that isn't whole",
-            words: &["convert", "usb:0", "din"],
-            input: &packets[..end],
-            output: &[0x90, 0x3c, 0x64],
-            status: 5,
-        };
-        let mut desk = desk(rt.alloc(), row.input, 512, ROOM)?;
-        run_at(&rt, rt.alloc(), &row, &mut desk, LIMIT)?;
-        assert!(rt; desk.is_written(2, b"input is cut\n"), "cut at {end}");
-    }
-    Ok(())
-}

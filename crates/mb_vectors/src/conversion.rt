@@ -98,6 +98,12 @@ const BY_WORDS: &[(&str, &[&str], &[u8], &[u8])] = &[
         &[0x90, 0x3c, 0x64, 0xf8, 0x90, 0x3c, 0x00],
         &[0x90, 0x3c, 0x64, 0xf8, 0x3c, 0x00],
     ),
+    (
+        "a dump that stands open at the end stays open on a byte line",
+        &["convert", "din", "din"],
+        &[0xf0, 0x01],
+        &[0xf0, 0x01],
+    ),
 ];
 
 #[test]
@@ -109,6 +115,7 @@ fn a_byte_line_becomes_usb_packets_in_any_cutting(rt: HostRuntime) -> Result<(),
             input,
             output,
             status: 0,
+            text: "",
         };
         for piece in [1, 2, 3, 512] {
             run(&rt, rt.alloc(), &row, piece, LIMIT)?;
@@ -126,6 +133,7 @@ fn the_words_say_where_it_goes(rt: HostRuntime) -> Result<(), Fail> {
             input,
             output,
             status: 0,
+            text: "",
         };
         for piece in [1, 2, 3, 512] {
             run(&rt, rt.alloc(), &row, piece, LIMIT)?;

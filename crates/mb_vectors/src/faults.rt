@@ -1,10 +1,12 @@
 //! Calls that fail, limits, and words that are no command.
 
-use crate::row::{ROOM, Row, desk, run_at, words};
+use crate::row::{ROOM, Row, desk, run, run_at, said_at, words};
 use mb_top::{LIMIT, bridge};
 use std::test::Fail;
 
 const TO_CABLE_0: &[&str] = &["convert", "din", "usb:0"];
+
+const TO_LINE: &[&str] = &["convert", "din", "din"];
 
 const NOTE_ON: &[u8] = &[0x90, 0x3c, 0x64];
 
@@ -47,50 +49,86 @@ const BYTE_BY_BYTE: &[Fault] = &[
     ("the last read", 5, ROOM, 3, CLOCKS, "read fault\n"),
 ];
 
+const TWO_NOTES: &[u8] = &[0x90, 0x3c, 0x64, 0x90, 0x40, 0x64];
+
+const TWO_NOTES_RUNNING: &[u8] = &[0x90, 0x3c, 0x64, 0x40, 0x64];
+
+/// Two notes of one status, a note a read: the status runs on behind a piece's end. The calls are as above.
+const NOTE_BY_NOTE: &[Fault] = &[
+    ("the first read", 1, ROOM, 3, &[], "read fault\n"),
+    ("the first write", 2, ROOM, 4, &[], "write fault\n"),
+    ("the second read", 3, ROOM, 3, NOTE_ON, "read fault\n"),
+    ("the second write", 4, ROOM, 4, NOTE_ON, "write fault\n"),
+    (
+        "the last read",
+        5,
+        ROOM,
+        3,
+        TWO_NOTES_RUNNING,
+        "read fault\n",
+    ),
+    ("no call", 9, ROOM, 0, TWO_NOTES_RUNNING, ""),
+];
+
+/// Words, rows, the input, and how much a read gives.
+type Faults = (
+    &'static [&'static str],
+    &'static [Fault],
+    &'static [u8],
+    usize,
+);
+
+const CALLS: &[Faults] = &[
+    (TO_CABLE_0, FAULTS, NOTE_ON, 512),
+    (TO_CABLE_0, BYTE_BY_BYTE, &[0xf8, 0xf8], 1),
+    (TO_LINE, NOTE_BY_NOTE, TWO_NOTES, 3),
+];
+
 /// After a fault stands what was known before, and what a read gives is written before the next one.
 #[test]
 fn after_a_fault_stands_what_was_known_before(rt: HostRuntime) -> Result<(), Fail> {
-    let tables: [(&[Fault], &[u8], usize); 2] = [
-        (FAULTS, NOTE_ON, 512),
-        (BYTE_BY_BYTE, &[0xf8, 0xf8], 1),
-    ];
-    for (rows, input, piece) in tables {
-        for (shows, call, room, status, output, text) in rows {
+    for (words, rows, input, piece) in CALLS {
+        assert!(rt; *piece > 0);
+        for (shows, call, room, status, output, text) in *rows {
             let row = Row {
                 shows,
-                words: TO_CABLE_0,
+                words,
                 input,
                 output,
                 status: *status,
+                text,
             };
-            let mut desk = desk(rt.alloc(), input, piece, *room)?;
+            let mut desk = desk(rt.alloc(), input, *piece, *room)?;
             desk.plan_faults(&[*call])?;
             run_at(&rt, rt.alloc(), &row, &mut desk, LIMIT)?;
-            assert!(rt; desk.is_written(2, text.as_bytes()), "{shows}: text");
         }
     }
     Ok(())
 }
 
-/// Three clocks, and how many bytes may be read.
+/// Words, how many bytes of three clocks may be read, what is written, and the status.
+type Limit = (&'static [&'static str], u64, &'static [u8], u8);
+
+const LIMITS: &[Limit] = &[
+    (TO_CABLE_0, 2, CLOCKS, 8),
+    (TO_CABLE_0, 4, THREE_CLOCKS, 0),
+    (TO_LINE, 2, &[0xf8, 0xf8], 8),
+    (TO_LINE, 4, &[0xf8, 0xf8, 0xf8], 0),
+];
+
 #[test]
 fn the_limit_is_looked_at_before_the_next_read(rt: HostRuntime) -> Result<(), Fail> {
-    let clocks = &[0xf8, 0xf8, 0xf8];
-    let table: [(u64, &[u8], &str, u8); 2] = [
-        (2, CLOCKS, "input is too long\n", 8),
-        (4, THREE_CLOCKS, "", 0),
-    ];
-    for (limit, output, text, status) in table {
+    for (words, limit, output, status) in LIMITS {
         let row = Row {
             shows: "three bytes at a limit",
-            words: TO_CABLE_0,
-            input: clocks,
+            words,
+            input: &[0xf8, 0xf8, 0xf8],
             output,
-            status,
+            status: *status,
+            text: said_at(*status),
         };
-        let mut desk = desk(rt.alloc(), clocks, 512, ROOM)?;
-        run_at(&rt, rt.alloc(), &row, &mut desk, limit)?;
-        assert!(rt; desk.is_written(2, text.as_bytes()), "limit {limit}: text");
+        assert!(rt; *limit > 0 && *limit <= LIMIT);
+        run(&rt, rt.alloc(), &row, 512, *limit)?;
     }
     Ok(())
 }
@@ -106,6 +144,15 @@ const NO_COMMANDS: &[&[&str]] = &[
     &["convert", "din", "midi"],
     &["Convert", "din", "usb:0"],
     &["--help"],
+    &["trace"],
+    &["selftest", "01", "5"],
+    &[
+        "convert", "din", "din", "din", "din", "din", "din", "din", "din", "din", "din", "din",
+    ],
+    &["convert", "ble/4", "din"],
+    &["check", "ble/4"],
+    &["convert", "din", "ble"],
+    &["check", "usb:16"],
 ];
 
 #[test]

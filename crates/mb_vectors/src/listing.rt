@@ -28,6 +28,12 @@ const CHECKED: &[Listed] = &[
         "",
         0,
     ),
+    (
+        "a status is truncated by the next one, and no status runs behind system common",
+        &[0xf1, 0xf1, 0x05, 0x06],
+        "0 truncated\n3 stray-data\n",
+        1,
+    ),
 ];
 
 const TRACED: &[Listed] = &[
@@ -61,6 +67,7 @@ fn recordings_are_checked_and_traced(rt: HostRuntime) -> Result<(), Fail> {
                 input,
                 output: lines.as_bytes(),
                 status: *status,
+                text: "",
             };
             for piece in [1, 2, 3, 512] {
                 run(&rt, rt.alloc(), &row, piece, LIMIT)?;
@@ -84,6 +91,7 @@ fn every_line_of_a_long_piece_is_printed(rt: HostRuntime) -> Result<(), Fail> {
         input: &input,
         output: &lines,
         status: 0,
+        text: "",
     };
     run(&rt, rt.alloc(), &row, 512, LIMIT)
 }

@@ -93,6 +93,7 @@ fn a_port_is_read_at_the_moments_that_are_set(rt: HostRuntime) -> Result<(), Fai
         if let Some(step) = reader.finish() {
             put_step(step, &mut text);
         }
+        assert!(rt; reader.finish().is_none(), "{shows}");
         assert!(rt; text.as_slice() == told.as_bytes(), "{shows}");
     }
     Ok(())

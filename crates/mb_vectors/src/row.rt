@@ -21,6 +21,19 @@ pub struct Row<'a> {
     pub input: &'a [u8],
     pub output: &'a [u8],
     pub status: u8,
+    /// What must stand on standard error.
+    pub text: &'a str,
+}
+
+/// What is said on standard error at a status, where there is room for it.
+pub fn said_at(status: u8) -> &'static str {
+    match status {
+        3 => "read fault\n",
+        4 => "write fault\n",
+        5 => "input is cut\n",
+        8 => "input is too long\n",
+        _ => "",
+    }
 }
 
 /// The words as a command line.
@@ -73,5 +86,10 @@ pub fn run_at(
     let status = bridge_within(alloc, &args, desk, limit);
     assert!(rt; status == row.status, "{}: status {status}", row.shows);
     assert!(rt; desk.is_written(1, row.output), "{}: output", row.shows);
+    assert!(rt;
+        desk.is_written(2, row.text.as_bytes()),
+        "{}: text",
+        row.shows
+    );
     Ok(())
 }
