@@ -5,10 +5,10 @@ round, in turn.
     bench/bridge.py [--program ./midibridge] [--mib 64] [--rounds 15] [--quick] [--only WORDS] [--no-memory]
 
 --quick is 16 MiB and 5 rounds; --only takes the commands that contain these words. Prints the median throughput as a ratio to dd and
-to C, for each command, each kind of input and each sink (a listing to /dev/null alone), and the same ratio to C by the processor's
-time, which other work on the machine changes less; then for each command the peak resident memory and the time a byte at 1 MiB and at
-256 MiB, and the memory of one System Exclusive message of 96 MiB. Ends with status 1 where an output isn't C's, or where memory grows
-with the input."""
+to C, for each command, each kind of input and each sink (a listing, and the kinds that no port sees for long, to /dev/null alone), and
+the same ratio to C by the processor's time, which other work on the machine changes less; then one table of all commands: the
+throughput as a ratio to dd, the peak resident memory and the time a byte at 1 MiB and at 256 MiB, and the memory of one System
+Exclusive message of 96 MiB. Ends with status 1 where an output isn't C's, or where memory grows with the input."""
 import argparse
 import os
 import random
@@ -33,6 +33,8 @@ COMMANDS = {
     "trace usb:0": ("usb", None),
 }
 KINDS = ["channel messages", "a third SysEx"]
+# what no port sees for long, by the carrier that is read
+FURTHER = {"din": ["real-time alone", "stray data alone"], "usb": ["two cables in turn"]}
 SINKS = ["/dev/null", "pipe", "file"]
 
 
@@ -56,10 +58,18 @@ def recording(program, kind, carrier, size):
     rng = random.Random(7)
     block = bytearray()
     while len(block) < MIB:
-        block += channel_messages(rng, 200)
+        if kind == "real-time alone":
+            block.append(rng.choice(b"\xf8\xfa\xfb\xfc\xfe\xff"))
+        elif kind == "stray data alone":
+            block.append(rng.randrange(128))
+        elif kind == "two cables in turn":
+            for cable in (0x00, 0x10):
+                block += bytes([cable + 9, 0x90, rng.randrange(128), rng.randrange(128)])
+        else:
+            block += channel_messages(rng, 200)
         if kind == "a third SysEx":
             block += b"\xf0" + bytes(rng.randrange(128) for _ in range(rng.randrange(4, 200))) + b"\xf7"
-    if carrier == "usb":
+    if carrier == "usb" and kind in KINDS:
         block = subprocess.run([program, "convert", "din", "usb:0"], input=block, stdout=subprocess.PIPE, check=True).stdout
     return bytes(block[:MIB]) * (size // MIB)
 
@@ -101,13 +111,13 @@ def written(words, source):
         return subprocess.run(words, stdin=given, stdout=subprocess.PIPE, check=True).stdout
 
 
-def ratios(program, plain, command, source, rounds, room):
+def ratios(program, plain, command, kind, source, rounds, room):
     """Rows of medians over the rounds: the program's throughput to dd's and to C's, for each sink."""
     programs = {"dd": ["dd", "bs=512"], "ours": [program] + command.split()}
     loop = COMMANDS[command][1]
     if plain and loop:
         programs["C"] = [plain] + loop
-    for sink in SINKS if loop else SINKS[:1]:
+    for sink in SINKS if loop and kind in KINDS else SINKS[:1]:
         took = {name: [] for name in programs}
         for _ in range(rounds):
             for name, words in programs.items():
@@ -135,26 +145,32 @@ def make(path, data, times=1):
 
 
 def memory(program, commands, room):
-    """Prints memory and time a byte at 1 and 256 MiB, and the memory of one long SysEx; returns whether the memory is equal."""
-    print(f"{'command':20} {'size':>16} {'peak KiB':>9} {'ns of the processor a byte':>27}")
+    """Prints speed, memory and time a byte at 1 and 256 MiB, and the memory of one long SysEx; returns whether the memory is equal."""
+    print(f"{'command':20} {'size':>16} {'to dd':>6} {'peak KiB':>9} {'ns of the processor a byte':>27}")
     peaks = []
     for command in commands:
         carrier, words = COMMANDS[command][0], [program] + command.split()
         block = recording(program, "a third SysEx", carrier, MIB)
-        seconds = lambda size, rounds: statistics.median(
-            run(words, make(f"{room}/in", block, size), "/dev/null", room)[1] for _ in range(rounds)
-        )
-        start = seconds(0, 31)
+
+        def medians(words, size, rounds):
+            """The seconds that pass, and those of the processor."""
+            source = make(f"{room}/in", block, size)
+            times = [run(words, source, "/dev/null", room) for _ in range(rounds)]
+            return [statistics.median(column) for column in zip(*times)]
+
+        _, start = medians(words, 0, 31)
         for size, rounds in ((1, 31), (256, 3)):
-            nanoseconds = (seconds(size, rounds) - start) * 1e9 / (size * MIB)
+            passed, used = medians(words, size, rounds)
+            to_dd = medians(["dd", "bs=512"], size, rounds)[0] / passed
+            nanoseconds = (used - start) * 1e9 / (size * MIB)
             peaks.append(peak_memory(words, (block for _ in range(size))))
-            print(f"{command:20} {size:12} MiB {peaks[-1]:9} {nanoseconds:27.2f}", flush=True)
+            print(f"{command:20} {size:12} MiB {to_dd:6.3f} {peaks[-1]:9} {nanoseconds:27.2f}", flush=True)
         if carrier == "din":
             dump = [b"\xf0"] + [b"\x55" * MIB] * 96 + [b"\xf7"]
         else:
             dump = [b"\x04\xf0\x55\x55"] + [b"\x04\x55\x55\x55" * (MIB // 4)] * 96 + [b"\x05\xf7\x00\x00"]
         peaks.append(peak_memory(words, dump))
-        print(f"{command:20} {'one SysEx, 96':>12} MiB {peaks[-1]:8}", flush=True)
+        print(f"{command:20} {'one SysEx, 96':>12} MiB {peaks[-1]:15}", flush=True)
     return max(peaks) - min(peaks) <= 512  # how much of the C library the system has loaded differs from run to run
 
 
@@ -176,16 +192,16 @@ def main():
     with tempfile.TemporaryDirectory() as room:
         plain = compile_plain(room)
         print(f"{size} MiB, medians of {rounds} rounds; 1.00 is as fast" + ("" if plain else "; no C compiler, so no column for C"))
-        print(f"{'command':20} {'input':17} {'sink':10} {'to dd':>6} {'to C':>6} {'by CPU':>6} {'MB/s':>6}")
+        print(f"{'command':20} {'input':18} {'sink':10} {'to dd':>6} {'to C':>6} {'by CPU':>6} {'MB/s':>6}")
         for command in commands:
             carrier, loop = COMMANDS[command]
-            for kind in KINDS:
+            for kind in KINDS + (FURTHER[carrier] if loop else []):
                 source = make(f"{room}/in", recording(program, kind, carrier, size * MIB))
                 if plain and loop and written([program] + command.split(), source) != written([plain] + loop, source):
                     print(f"{command}: the output isn't that of the C loop")
                     fine = False
-                for sink, *numbers in ratios(program, plain, command, source, rounds, room):
-                    print(f"{command:20} {kind:17} {sink:10}", *(f"{number:>6}" for number in numbers), flush=True)
+                for sink, *numbers in ratios(program, plain, command, kind, source, rounds, room):
+                    print(f"{command:20} {kind:18} {sink:10}", *(f"{number:>6}" for number in numbers), flush=True)
         if not given.no_memory and not memory(program, commands, room):
             print("memory grows with the input")
             fine = False
