@@ -1,5 +1,5 @@
 -- What was taken in two steps was taken.
-use Rattle.std.proofs.Common.{◌≡◌, ℕ, Bool, List, [], ◌++◌, IsTrue, refl, sym, ◌∙◌, ap, subst, append_assoc, take, drop}
+use Rattle.std.proofs.Common.{◌≡◌, ℕ, Bool, List, [], ◌++◌, IsTrue, refl, sym, ◌∙◌, ap, append_assoc, take, drop}
 use Rattle.std.proofs.lemmas.List.{take-append-drop}
 use Rattle.mb_outside.specs.Contents.{Contents, after_write}
 use Rattle.mb_outside.specs.ContentsLaws.{after_write-none, after_write-twice}
@@ -17,16 +17,15 @@ Wrote-both tells contents read_faults handle a b c x y ab bc =
     }
 
 -- one more write of some first bytes of what is left
-pub Wrote-more : {S : Type 0} (tells : Bool) (contents : S → Contents) (read_faults : S → ℕ) (handle handle_now : ℕ) (start mid after : S) (piece rest left : List ℕ) (count : ℕ) →
+pub Wrote-more : {S : Type 0} (tells : Bool) (contents : S → Contents) (read_faults : S → ℕ) (handle : ℕ) (start mid after : S) (piece rest left : List ℕ) (count : ℕ) →
     ((done : List ℕ) × (piece ≡ done ++ rest) × Wrote tells contents read_faults handle start done mid) →
-    handle_now ≡ handle →
     left ≡ drop count rest →
-    (IsTrue tells → contents after ≡ after_write handle_now (take count rest) (contents mid)) →
+    (IsTrue tells → contents after ≡ after_write handle (take count rest) (contents mid)) →
     read_faults after ≡ read_faults mid →
     (done : List ℕ) × (piece ≡ done ++ left) × Wrote tells contents read_faults handle start done after
-Wrote-more tells contents read_faults handle handle_now start mid after piece rest left count so_far same left_is wrote reads = (
+Wrote-more tells contents read_faults handle start mid after piece rest left count so_far left_is wrote reads = (
   so_far.0 ++ take count rest,
   so_far.1 ∙ (ap (λ xs. so_far.0 ++ xs) (sym (take-append-drop count rest) ∙ ap (λ xs. take count rest ++ xs) (sym left_is)) ∙ sym (append_assoc so_far.0 (take count rest) left)),
   Wrote-both tells contents read_faults handle start mid after so_far.0 (take count rest) so_far.2
-      (record { contents_are = subst (λ (h : ℕ). IsTrue tells → contents after ≡ after_write h (take count rest) (contents mid)) same wrote; reads_same = reads }),
+      (record { contents_are = wrote; reads_same = reads }),
 )

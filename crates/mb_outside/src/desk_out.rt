@@ -1,9 +1,10 @@
 //! One handle of a desk as a taker of bytes.
 
-ghost use Rattle.std.specs.Prelude.{◌≡◌, ℕ, IsTrue, refl};
+ghost use Rattle.std.specs.Prelude.{◌≡◌, ◌≢◌, ℕ, List, IsTrue, OnOk, OnErr, refl};
 ghost use Rattle.std.proofs.Common.{◌∙◌, subst};
+ghost use Rattle.mb_outside.specs.Cause.{HasCause};
 ghost use Rattle.mb_outside.specs.Contents.{is_writable};
-ghost use Rattle.mb_outside.specs.Taking.{Wrote};
+ghost use Rattle.mb_outside.specs.Taking.{IsFront, Wrote};
 
 use crate::{Desk, Failed, Out, Refused};
 
@@ -40,13 +41,25 @@ impl<D: Desk> Out for DeskOut<'_, D> {
     ghost both = { λ a b c x y ab bc. (bc.0 ∙ ab.0, bc.1 ∙ ab.1, Wrote-both D.tells D.contents D.read_faults a.handle a.desk.now b.desk.now c.desk.now x y ab.2 (subst (λ (h : ℕ). Wrote D.tells D.contents D.read_faults h b.desk.now y c.desk.now) ab.0 bc.2)) };
 
     fn take(&mut self, piece: &[u8]) -> Result<(), Refused> {
-        let mut rest = piece;
-        'writes: while !rest.is_empty() {
-            match self.desk.write(self.handle, rest) {
-                Ok(count) => rest = &rest[count..],
-                Err(Failed) => return Err(Refused),
-            }
-        }
-        Ok(())
+        write_all(self.desk, self.handle, piece)
     }
+}
+
+/// Writes the piece to a handle, in as many writes as it needs. After `Refused` a beginning of it was written, and not all.
+pub fn write_all<D: Desk>(desk: &mut D, h: u32, piece: &[u8]) -> Result<(), Refused>
+    requires { IsTrue D.tells → IsTrue (is_writable (D.contents desk.old) h) }
+    ensures wrote { OnOk result (Wrote D.tells D.contents D.read_faults h desk.old piece.now desk.new) }
+    ensures part { OnErr result ((front : List ℕ) × IsFront front piece.now × Wrote D.tells D.contents D.read_faults h desk.old front desk.new × (front ≢ piece.now)) }
+    ensures cause { HasCause (D.write_faults desk.old) (D.write_faults desk.new) result }
+    ensures sound { OnOk result (D.write_faults desk.new ≡ D.write_faults desk.old) }
+    ensures read_faults { D.read_faults desk.new ≡ D.read_faults desk.old }
+{
+    let mut rest = piece;
+    'writes: while !rest.is_empty() {
+        match desk.write(h, rest) {
+            Ok(count) => rest = &rest[count..],
+            Err(Failed) => return Err(Refused),
+        }
+    }
+    Ok(())
 }

@@ -11,7 +11,7 @@ mod real_desk;
 
 pub use args::Args;
 pub use desk::{Desk, Failed};
-pub use desk_out::DeskOut;
+pub use desk_out::{DeskOut, write_all};
 pub use memory_desk::MemoryDesk;
 pub use out::{Out, Refused};
 pub use real_desk::RealDesk;

@@ -1,5 +1,5 @@
 -- From what a command did to what the caller sees.
-use Rattle.std.proofs.Common.{◌≡◌, Bool, IsTrue, ℕ, ◌+◌, ◌<◌, ◌≤◌, ◌↔◌, true, false, List, [], ◌∷◌, length, take, refl, sym, ◌∙◌, ap, subst, inl, inr, arith, length-append}
+use Rattle.std.proofs.Common.{◌≡◌, ◌≢◌, Bool, IsTrue, ℕ, ◌+◌, ◌<◌, ◌≤◌, ◌↔◌, true, false, List, [], ◌∷◌, length, take, refl, sym, ◌∙◌, ap, subst, inl, inr, arith, length-append}
 use Rattle.std.specs.Prelude.{Result, Ok, Err, OnOk, OnErr}
 use Rattle.std.proofs.lemmas.List.{append-nil, take_at, drop_at}
 use Rattle.mb_outside.specs.Cause.{Rose}
@@ -17,18 +17,19 @@ use Rattle.mb_top.specs.declared.status.Status.{Status}
 use Rattle.mb_top.specs.declared.status.Status.TheVariants.{Done, Noted, Usage, ReadFault, WriteFault, Cut, TooLong, NoMemory}
 
 -- a text was written as far as writing went
-pub said : {T E S : Type 0} (r : Result T E) (tells : Bool) (contents : S → Contents) (read_faults : S → ℕ) (before after : S) (text : List ℕ) (rose : Type 0) →
+pub said : {T E S : Type 0} (r : Result T E) (tells : Bool) (contents : S → Contents) (read_faults : S → ℕ) (before after : S) (text : List ℕ) (rose same : Type 0) →
     OnOk r (Wrote tells contents read_faults 2 before text after) →
-    OnErr r ((front : List ℕ) × IsFront front text × Wrote tells contents read_faults 2 before front after) → OnErr r rose → IsTrue tells →
-    (words : List ℕ) × (contents after ≡ after_write 2 words (contents before)) × Says rose words text
-said (Ok x) tells contents read_faults before after text rose ok err cause t =
-    (text, ok.contents_are t, record { front = ([], sym (append-nil text)); all = inl refl })
-said (Err x) tells contents read_faults before after text rose ok err cause t =
-    (err.0, (err.2).contents_are t, record { front = err.1; all = inr cause })
+    OnErr r ((front : List ℕ) × IsFront front text × Wrote tells contents read_faults 2 before front after × (front ≢ text)) → OnErr r rose → OnOk r same → IsTrue tells →
+    (words : List ℕ) × (contents after ≡ after_write 2 words (contents before)) × Says rose words text × (words ≡ text → same)
+said (Ok x) tells contents read_faults before after text rose same ok err cause sound t =
+    (text, ok.contents_are t, record { front = ([], sym (append-nil text)); all = inl refl }, λ whole. sound)
+said (Err x) tells contents read_faults before after text rose same ok err cause sound t =
+    (err.0, (err.2).contents_are t, record { front = err.1; all = inr cause }, λ whole. absurd (err.3 whole))
 
 -- of an empty text nothing is written
-pub none_said : (contents : Contents) (text : List ℕ) (rose : Type 0) → text ≡ [] → (words : List ℕ) × (contents ≡ after_write 2 words contents) × Says rose words text
-none_said contents text rose none = ([], sym (after_write-none 2 contents), record { front = (text, refl); all = inl (sym none) })
+pub none_said : (contents : Contents) (text : List ℕ) (rose : Type 0) (faults : ℕ) → text ≡ [] →
+    (words : List ℕ) × (contents ≡ after_write 2 words contents) × Says rose words text × (words ≡ text → faults ≡ faults)
+none_said contents text rose faults none = ([], sym (after_write-none 2 contents), record { front = (text, refl); all = inl (sym none) }, λ whole. refl)
 
 -- words are one command
 
@@ -109,11 +110,12 @@ output-changed input output words before = drop_at (before.written 1) output (le
 words-changed : (input output words : List ℕ) (before : Contents) → added_to 2 before (changed input output words before) ≡ words
 words-changed input output words before = drop_at (before.written 2) words (length (before.written 2)) refl
 
-pub answered : (words : List (List ℕ)) (limit : ℕ) (before mid after : Contents) (faults faults_now : ℕ) (status : Status) (answer : ℕ) (text : List ℕ) →
+pub answered : (words : List (List ℕ)) (limit : ℕ) (before mid after : Contents) (faults faults_mid faults_now : ℕ) (status : Status) (answer : ℕ) (text : List ℕ) →
     answer ≡ code_of status → RanWords words limit before mid status → after ≡ after_write 2 text mid →
     Says (Rose (faults + faults_told status) faults_now) text (text_of status) →
+    ((status ≡ WriteFault → ⊥) → faults_mid ≡ faults) → (text ≡ text_of status → faults_now ≡ faults_mid) →
     Answered words limit before after faults faults_now answer
-answered words limit before mid after faults faults_now status answer text number r wrote says =
+answered words limit before mid after faults faults_mid faults_now status answer text number r wrote says told whole =
     let all : after ≡ changed r.input r.output text before = wrote ∙ ap (after_write 2 text) r.contents in
     let input : taken_off 0 before after ≡ r.input = ap (taken_off 0 before) all ∙ taken-changed r.input r.output text before r.front in
     let output : added_to 1 before after ≡ r.output = ap (added_to 1 before) all ∙ output-changed r.input r.output text before in
@@ -132,6 +134,7 @@ answered words limit before mid after faults faults_now status answer text numbe
           subst (λ (xs : List ℕ). Ends words limit (before.left 0) xs (added_to 1 before after) status) (sym input)
           (subst (λ (xs : List ℕ). Ends words limit (before.left 0) r.input xs status) (sym output) r.ends);
       text = subst (λ (xs : List ℕ). Says (Rose (faults + faults_told status) faults_now) xs (text_of status)) (sym spoken) says;
+      untold = λ other all_said. whole (sym spoken ∙ all_said) ∙ told other;
     }
 
 -- what the answer says of a command

@@ -13,8 +13,9 @@ use Rattle.mb_top.proofs.entry.bridge_within.Goals as goal
 pub returns-clause-contents : goal.returns-clause-contents
 returns-clause-contents g c = λ tells.
     let words = c.say.ensures.said tells in
-    answered _ _ _ _ _ _ _ c.run-status.result _ words.0 (omega (arith, c.code.ensures)) (c.run-status.ensures.ran tells) words.1
+    answered _ _ _ _ _ _ _ _ c.run-status.result _ words.0 (omega (arith, c.code.ensures)) (c.run-status.ensures.ran tells) words.1
     (says-earlier _ _ _ _ _ c.run-status.result words.0 _ c.run-status.ensures.writes c.run-status.ensures.fault (says-text _ words.0 _ _ c.text.ensures words.2))
+    c.run-status.ensures.write_told (λ all_said. words.3 (all_said ∙ sym c.text.ensures))
 
 pub returns-clause-headline : goal.returns-clause-headline
 returns-clause-headline g c = λ first between last tells m all.
