@@ -11,6 +11,8 @@ mod din;
 #[cfg(test)]
 mod frames;
 #[cfg(test)]
+mod marks;
+#[cfg(test)]
 mod merge;
 #[cfg(test)]
 mod message;

@@ -1,59 +1,75 @@
 //! Words, desks and outs.
 
-use mb_message::Memory;
-use mb_outside::{Args, Desk, DeskOut, Failed, MemoryDesk, Out, RealDesk};
-use std::test::Fail;
-
-fn desk_with(rt: &HostRuntime, input: &[u8], room: usize) -> Result<MemoryDesk, Memory> {
-    let mut desk = MemoryDesk::new(rt.alloc(), room)?;
-    desk.put_input(input)?;
-    Ok(desk)
-}
+use mb_outside::{Args, Desk, DeskOut, MemoryDesk, Out, RealDesk, write_all};
+use std::alloc::Global;
+use std::process::Abort;
 
 #[test]
-fn words_keep_their_order(rt: HostRuntime) -> Result<(), Fail> {
+fn words_keep_their_order(rt: HostRuntime) {
     let mut words = Args::new(rt.alloc());
-    words.push("convert")?;
-    words.push("din")?;
-    assert!(rt; words.len() == 2 && words.word(0) == "convert" && words.word(1) == "din");
-    Ok(())
+    words.push("convert").expect(&rt, "memory");
+    words.push("din").expect(&rt, "memory");
+    assert!(rt; words.len() == 2);
+    assert!(rt; words.word(0) == "convert" && words.word(1) == "din");
+}
+
+/// A desk with three bytes of input, of which a read gives two, room for as many bytes, and a second call that fails.
+fn desk_of(rt: &impl Abort, alloc: Global, room: usize) -> MemoryDesk {
+    let mut desk = MemoryDesk::new(alloc, room).expect(rt, "memory");
+    desk.put_input(&[1, 2, 3]).expect(rt, "memory");
+    desk.plan_faults(&[2]).expect(rt, "memory");
+    desk.set_piece(2);
+    desk
+}
+
+/// Whether reads give so many bytes in turn, or fail.
+fn reads(desk: &mut MemoryDesk, buffer: &mut [u8], given: &[Option<usize>]) -> bool {
+    for count in given {
+        if desk.read(0, buffer).ok() != *count {
+            return false;
+        }
+    }
+    true
+}
+
+/// Whether writes take so many bytes in turn, or fail.
+fn writes(desk: &mut MemoryDesk, bytes: &[u8], taken: &[Option<usize>]) -> bool {
+    for count in taken {
+        if desk.write(1, bytes).ok() != *count {
+            return false;
+        }
+    }
+    true
 }
 
 #[test]
-fn a_memory_desk_reads_writes_and_fails_as_told(rt: HostRuntime) -> Result<(), Fail> {
-    let mut desk = desk_with(&rt, &[1, 2, 3], 2)?;
-    desk.set_piece(2);
-    desk.plan_faults(&[2])?;
+fn a_memory_desk_reads_writes_and_fails_as_told(rt: HostRuntime) {
+    let mut desk = desk_of(&rt, rt.alloc(), 2);
     let mut buffer = [0u8; 8];
-    // the second call is planned to fail, the last finds the end
-    for given in [Ok(2), Err(Failed), Ok(1), Ok(0)] {
-        assert!(rt; desk.read(0, &mut buffer) == given);
-    }
+    // the last read finds the end
+    assert!(rt; reads(&mut desk, &mut buffer, &[Some(2), None, Some(1), Some(0)]));
     assert!(rt; buffer.as_slice() == [3, 2, 0, 0, 0, 0, 0, 0].as_slice());
     // as much as there is room for
-    for taken in [Ok(2), Err(Failed)] {
-        assert!(rt; desk.write(1, &[7, 8, 9]) == taken);
-    }
+    assert!(rt; writes(&mut desk, &[7, 8, 9], &[Some(2), None]));
     assert!(rt;
         desk.is_written(1, &[7, 8]) && desk.is_written(2, &[]) && !desk.is_written(1, &[7])
     );
-    Ok(())
 }
 
 #[test]
-fn a_desk_out_hands_on_every_byte(rt: HostRuntime) -> Result<(), Fail> {
-    let mut desk = desk_with(&rt, &[], 3)?;
-    assert!(rt; DeskOut::new(&mut desk, 1).take(&[1, 2]).is_ok());
-    assert!(rt; DeskOut::new(&mut desk, 2).take(&[3, 4]).is_err());
-    assert!(rt; desk.is_written(1, &[1, 2]) && desk.is_written(2, &[3]));
-    Ok(())
+fn a_desk_out_hands_on_every_byte(rt: HostRuntime) {
+    let mut desk = MemoryDesk::new(rt.alloc(), 4).expect(&rt, "memory");
+    assert!(rt; write_all(&mut desk, 1, &[1]).is_ok());
+    assert!(rt; DeskOut::new(&mut desk, 1).take(&[2, 3]).is_ok());
+    assert!(rt; DeskOut::new(&mut desk, 2).take(&[4, 5]).is_err());
+    assert!(rt; desk.is_written(1, &[1, 2, 3]) && desk.is_written(2, &[4]));
 }
 
 #[test]
-fn a_real_desk_fails_at_handles_that_it_lacks(rt: HostRuntime) -> Result<(), Fail> {
-    let mut desk = RealDesk::new(rt.clone()?, rt.alloc())?;
+fn a_real_desk_fails_at_handles_that_it_lacks(rt: HostRuntime) {
+    let handle = rt.clone().expect(&rt, "a handle");
+    let mut desk = RealDesk::new(handle, rt.alloc()).expect(&rt, "memory");
     let mut buffer = [0u8; 1];
     assert!(rt; desk.read(5, &mut buffer).is_err() && desk.write(5, &[1]).is_err());
-    assert!(rt; desk.write(1, &[]) == Ok(0));
-    Ok(())
+    assert!(rt; desk.write(1, &[]).ok() == Some(0));
 }

@@ -1,68 +1,78 @@
 //! Lines of text.
 
-use mb_message::{Mark, Note, NoteKind, Rt, Short};
+use crate::marks::Sample;
+use crate::text::{Text, put_line, put_note};
+use mb_message::{Note, NoteKind};
 use mb_print::{Line, mark_line, note_line};
-use std::test::Fail;
+
+/// Moments, marks, and their lines.
+const MARKS: &[(u64, Sample, &str)] = &[
+    (0, Sample::Note, "0 short 90 3C 64\n"),
+    (9, Sample::Program, "9 short C5 0A\n"),
+    (10, Sample::Tune, "10 short F6\n"),
+    (u64::MAX, Sample::Clock, "18446744073709551615 rt F8\n"),
+    (100, Sample::Open, "100 open\n"),
+    (0, Sample::Byte(0x7f), "0 data 7F\n"),
+    (1250, Sample::End, "1250 end\n"),
+    (99, Sample::Abort, "99 abort\n"),
+];
 
 #[test]
-fn lines_of_marks(rt: HostRuntime) -> Result<(), Fail> {
-    let note = Short::new(0x90, 0x3c, 0x64).ok_or("a note")?;
-    let program = Short::new(0xc5, 0x0a, 0).ok_or("a program change")?;
-    let tune = Short::new(0xf6, 0, 0).ok_or("a tune request")?;
-    let clock = Rt::new(0xf8).ok_or("a clock")?;
-    let table = [
-        (0, Mark::Short(note), "0 short 90 3C 64\n"),
-        (9, Mark::Short(program), "9 short C5 0A\n"),
-        (10, Mark::Short(tune), "10 short F6\n"),
-        (
-            18446744073709551615,
-            Mark::Rt(clock),
-            "18446744073709551615 rt F8\n",
-        ),
-        (100, Mark::Open, "100 open\n"),
-        (0, Mark::Byte(0x7f), "0 data 7F\n"),
-        (1250, Mark::End, "1250 end\n"),
-        (99, Mark::Abort, "99 abort\n"),
-    ];
-    for (moment, mark, text) in table {
+fn lines_of_marks(rt: HostRuntime) {
+    for (moment, sample, text) in MARKS {
         let mut line = Line::new();
-        mark_line(moment, mark, &mut line);
+        mark_line(*moment, sample.mark(), &mut line);
         assert!(rt; line.as_slice() == text.as_bytes(), "{text}");
     }
-    Ok(())
 }
 
+/// The line of a note alone, and among marks.
+fn lines_of(note: Note) -> Text {
+    let mut text = Text::new();
+    let mut line = Line::new();
+    note_line(note, false, &mut line);
+    put_line(line.as_slice(), &mut text);
+    put_note(note, &mut text);
+    text
+}
+
+/// Kinds of notes, and the lines of each at 12.
+const NOTES: &[(NoteKind, &str)] = &[
+    (NoteKind::StrayData, "12 stray-data\nnote 12 stray-data\n"),
+    (NoteKind::Truncated, "12 truncated\nnote 12 truncated\n"),
+    (NoteKind::StrayEnd, "12 stray-end\nnote 12 stray-end\n"),
+    (NoteKind::Undefined, "12 undefined\nnote 12 undefined\n"),
+    (
+        NoteKind::ReservedCin,
+        "12 reserved-cin\nnote 12 reserved-cin\n",
+    ),
+    (
+        NoteKind::CinMismatch,
+        "12 cin-mismatch\nnote 12 cin-mismatch\n",
+    ),
+    (NoteKind::BadHeader, "12 bad-header\nnote 12 bad-header\n"),
+    (
+        NoteKind::EmptyPacket,
+        "12 empty-packet\nnote 12 empty-packet\n",
+    ),
+    (NoteKind::LoneStamp, "12 lone-stamp\nnote 12 lone-stamp\n"),
+    (NoteKind::BadCip, "12 bad-cip\nnote 12 bad-cip\n"),
+    (NoteKind::ZeroDbs, "12 zero-dbs\nnote 12 zero-dbs\n"),
+    (NoteKind::Ragged, "12 ragged\nnote 12 ragged\n"),
+    (
+        NoteKind::NoMidiQuadlet,
+        "12 no-midi-quadlet\nnote 12 no-midi-quadlet\n",
+    ),
+    (NoteKind::DbcGap, "12 dbc-gap\nnote 12 dbc-gap\n"),
+];
+
 #[test]
-fn lines_of_notes(rt: HostRuntime) -> Result<(), Fail> {
-    let table = [
-        (NoteKind::StrayData, "stray-data\n"),
-        (NoteKind::Truncated, "truncated\n"),
-        (NoteKind::StrayEnd, "stray-end\n"),
-        (NoteKind::Undefined, "undefined\n"),
-        (NoteKind::ReservedCin, "reserved-cin\n"),
-        (NoteKind::CinMismatch, "cin-mismatch\n"),
-        (NoteKind::BadHeader, "bad-header\n"),
-        (NoteKind::EmptyPacket, "empty-packet\n"),
-        (NoteKind::LoneStamp, "lone-stamp\n"),
-        (NoteKind::BadCip, "bad-cip\n"),
-        (NoteKind::ZeroDbs, "zero-dbs\n"),
-        (NoteKind::Ragged, "ragged\n"),
-        (NoteKind::NoMidiQuadlet, "no-midi-quadlet\n"),
-        (NoteKind::DbcGap, "dbc-gap\n"),
-    ];
-    for (kind, word) in table {
-        let mut checked = Line::new();
-        note_line(Note { kind, at: 12 }, false, &mut checked);
-        assert!(rt;
-            checked.as_slice().strip_prefix(b"12 ") == Some(word.as_bytes()),
-            "{word}"
-        );
-        let mut traced = Line::new();
-        note_line(Note { kind, at: 0 }, true, &mut traced);
-        assert!(rt;
-            traced.as_slice().strip_prefix(b"note 0 ") == Some(word.as_bytes()),
-            "{word}"
-        );
+fn lines_of_notes(rt: HostRuntime) {
+    for (kind, text) in NOTES {
+        let note = Note {
+            kind: *kind,
+            at: 12,
+        };
+        assert!(rt; lines_of(note).as_slice() == text.as_bytes(), "{text}");
     }
-    Ok(())
 }

@@ -18,49 +18,53 @@ pub enum Runs {
     AsLent,
 }
 
-/// Appends the lines of what was told of a cable.
-pub fn put_seen(cable: u8, seen: Seen<'_>, runs: Runs, text: &mut Text) {
-    match seen {
-        Seen::Note(note) => put_note(note, text),
-        Seen::Ev(Ev::Short(short)) => put_mark(cable, Mark::Short(short), text),
-        Seen::Ev(Ev::Rt(message)) => put_mark(cable, Mark::Rt(message), text),
-        Seen::Ev(Ev::Open) => put_mark(cable, Mark::Open, text),
-        Seen::Ev(Ev::Run(bytes)) => match runs {
-            Runs::ByteByByte => {
-                for byte in bytes {
-                    put_mark(cable, Mark::Byte(*byte), text);
-                }
-            }
-            Runs::AsLent => put_run(bytes, text),
-        },
-        Seen::Ev(Ev::End) => put_mark(cable, Mark::End, text),
-        Seen::Ev(Ev::Abort) => put_mark(cable, Mark::Abort, text),
+/// Appends the lines of an answer: `none` where nothing was told.
+pub fn put_answer(cable: u8, answer: Option<Seen<'_>>, text: &mut Text) {
+    match answer {
+        Some(seen) => put_seen(cable, seen, Runs::AsLent, text),
+        None => put_line(b"none\n", text),
     }
 }
 
-/// Appends the line of a run: `run` and its bytes.
-fn put_run(bytes: &[u8], text: &mut Text) {
-    put_line(b"run", text);
+/// Appends the lines of what was told of a cable.
+pub fn put_seen(cable: u8, seen: Seen<'_>, runs: Runs, text: &mut Text) {
+    let number = u64::from(cable);
+    match seen {
+        Seen::Note(note) => put_note(note, text),
+        Seen::Ev(Ev::Short(short)) => put_mark(number, Mark::Short(short), text),
+        Seen::Ev(Ev::Rt(message)) => put_mark(number, Mark::Rt(message), text),
+        Seen::Ev(Ev::Open) => put_mark(number, Mark::Open, text),
+        Seen::Ev(Ev::Run(bytes)) => match runs {
+            Runs::ByteByByte => {
+                for byte in bytes {
+                    put_mark(number, Mark::Byte(*byte), text);
+                }
+            }
+            Runs::AsLent => put_bytes("run", bytes, text),
+        },
+        Seen::Ev(Ev::End) => put_mark(number, Mark::End, text),
+        Seen::Ev(Ev::Abort) => put_mark(number, Mark::Abort, text),
+    }
+}
+
+/// Appends a word and bytes on one line.
+pub fn put_bytes(word: &str, bytes: &[u8], text: &mut Text) {
+    put_line(word.as_bytes(), text);
     for byte in bytes {
-        let digits = [b' ', digit(*byte / 16), digit(*byte % 16)];
-        put_line(&digits, text);
+        put_line(&[b' ', digit(*byte / 16), digit(*byte % 16)], text);
     }
     put_line(b"\n", text);
 }
 
-/// A digit of a byte in hexadecimal.
+/// A digit in hexadecimal.
 fn digit(value: u8) -> u8
     requires { value < 16 }
 {
     b"0123456789ABCDEF"[usize::from(value)]
 }
 
-/// Appends the line that stands for an answer of nothing.
-pub fn put_none(text: &mut Text) {
-    put_line(b"none\n", text);
-}
-
-fn put_line(line: &[u8], text: &mut Text) {
+/// Appends a line, or a part of one.
+pub fn put_line(line: &[u8], text: &mut Text) {
     let _ = text.try_extend_from_slice(line);
 }
 
@@ -71,9 +75,9 @@ pub fn put_note(note: Note, text: &mut Text) {
     put_line(line.as_slice(), text);
 }
 
-/// Appends the line of a mark.
-pub fn put_mark(cable: u8, mark: Mark, text: &mut Text) {
+/// Appends the line of a mark, behind a number.
+pub fn put_mark(number: u64, mark: Mark, text: &mut Text) {
     let mut line = Line::new();
-    mark_line(u64::from(cable), mark, &mut line);
+    mark_line(number, mark, &mut line);
     put_line(line.as_slice(), text);
 }

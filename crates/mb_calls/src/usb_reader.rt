@@ -2,7 +2,7 @@
 
 ghost use Rattle.std.specs.Prelude.{◌≡◌, ◌+◌, ◌<◌, ◌^◌, length};
 
-use crate::text::{Runs, Text, put_mark, put_none, put_note, put_seen};
+use crate::text::{Runs, Text, put_answer, put_mark, put_note, put_seen};
 use mb_message::{Buf, Mark, PortSeen, Short};
 use mb_usb::{CableReader, UsbReader};
 
@@ -77,10 +77,8 @@ const TOLD: &[(&[u8], &str)] = &[
 fn packets_are_read_cut_at_each_place(rt: HostRuntime) {
     for (bytes, text) in TOLD {
         for cut in 0..=bytes.len() {
-            assert!(rt;
-                told_cut_at(bytes, cut).as_slice() == text.as_bytes(),
-                "{bytes:?} at {cut}"
-            );
+            let told = told_cut_at(bytes, cut);
+            assert!(rt; told.as_slice() == text.as_bytes(), "{text} at {cut}");
         }
     }
 }
@@ -91,7 +89,7 @@ fn runs_are_lent_packet_by_packet(rt: HostRuntime) {
     let mut text = Text::new();
     let packets = &[0x04, 0xf0, 1, 2, 0x04, 3, 4, 5];
     read_piece(&mut reader, packets, Runs::AsLent, &mut text);
-    put_none(&mut text);
+    put_answer(0, None, &mut text);
     assert!(rt; text.as_slice() == b"0 open\nrun 01 02\nrun 03 04 05\nnone\n".as_slice());
 }
 
@@ -101,13 +99,14 @@ fn an_unfinished_packet_is_finished_on_its_cable(rt: HostRuntime) {
     let mut text = Text::new();
     let packets = &[0x04, 0xf0, 1, 2, 0x09, 0x90];
     read_piece(&mut reader, packets, Runs::ByteByByte, &mut text);
-    assert_eq!(rt; reader.partial(), 2);
-    assert!(rt; reader.finish_port(1).is_none());
-    if let Some(seen) = reader.finish_port(0) {
-        put_seen(0, seen, Runs::ByteByByte, &mut text);
-    }
-    assert!(rt; reader.finish_port(0).is_none());
-    assert!(rt; text.as_slice().ends_with(b"0 abort\nnote 5 truncated\n"));
+    assert!(rt; reader.partial() == 2);
+    put_answer(1, reader.finish_port(1), &mut text);
+    put_answer(0, reader.finish_port(0), &mut text);
+    put_answer(0, reader.finish_port(0), &mut text);
+    assert!(rt;
+        text.as_slice()
+            .ends_with(b"0 abort\nnone\nnote 5 truncated\nnone\n")
+    );
 }
 
 fn read_cable(reader: &mut CableReader, piece: &[u8], text: &mut Text)
@@ -127,12 +126,13 @@ fn one_cable_and_the_notes_of_all_packets(rt: HostRuntime) {
         0x30, 1, 2, 3, 0x19, 0x80, 0x3c, 0x64, 0x04, 0x3c, 0x90, 0x3d, 0x0f, 0x64, 9, 9, 0x09,
     ];
     read_cable(&mut reader, packets, &mut text);
-    assert_eq!(rt; reader.partial(), 1);
-    assert!(rt; reader.finish().is_none());
-    let told =
-        "note 0 reserved-cin\nnote 4 cin-mismatch\nnote 9 stray-data\nnote 8 cin-mismatch\n0 short 90 3D 64\n";
-    assert!(rt; text.as_slice() == told.as_bytes());
+    assert!(rt; reader.partial() == 1);
+    put_answer(0, reader.finish(), &mut text);
+    assert!(rt; text.as_slice() == OF_ONE_CABLE.as_bytes());
 }
+
+const OF_ONE_CABLE: &str =
+    "note 0 reserved-cin\nnote 4 cin-mismatch\nnote 9 stray-data\nnote 8 cin-mismatch\n0 short 90 3D 64\nnone\n";
 
 fn put(packet: [u8; 4], bytes: &mut Buf) {
     let _ = bytes.try_extend_from_slice(&packet);
@@ -140,7 +140,7 @@ fn put(packet: [u8; 4], bytes: &mut Buf) {
 
 fn put_short(cable: u8, status: u8, data1: u8, data2: u8, text: &mut Text) {
     if let Some(short) = Short::new(status, data1, data2) {
-        put_mark(cable, Mark::Short(short), text);
+        put_mark(u64::from(cable), Mark::Short(short), text);
     }
 }
 
@@ -190,19 +190,15 @@ fn the_same_is_told_however_it_is_cut(rt: HostRuntime) {
     let mut bytes = Buf::new();
     let mut text = Text::new();
     put_sixteen(&mut bytes, &mut text);
-    assert_eq!(rt; bytes.len(), 576);
+    assert!(rt; bytes.len() == 576);
     let _ = bytes.try_extend_from_slice(SYSEX_AND_NOTES);
     let _ = text.try_extend_from_slice(SYSEX_AND_NOTES_TOLD.as_bytes());
     for size in [1, 2, 3, 5, 512] {
-        assert!(rt;
-            told_in_pieces(bytes.as_slice(), size).as_slice() == text.as_slice(),
-            "pieces of {size}"
-        );
+        let told = told_in_pieces(bytes.as_slice(), size);
+        assert!(rt; told.as_slice() == text.as_slice(), "pieces of {size}");
     }
     for cut in 576..604_usize {
-        assert!(rt;
-            told_cut_at(bytes.as_slice(), cut).as_slice() == text.as_slice(),
-            "cut at {cut}"
-        );
+        let told = told_cut_at(bytes.as_slice(), cut);
+        assert!(rt; told.as_slice() == text.as_slice(), "cut at {cut}");
     }
 }

@@ -2,12 +2,8 @@
 
 ghost use Rattle.std.specs.Prelude.{◌<◌};
 
-use crate::row::{Row, run, said_at};
-use mb_top::LIMIT;
-use std::test::Fail;
-
-/// What the row shows, the words, the packets, what must come, and the status.
-type Cable<'a> = (&'a str, &'a [&'a str], &'a [u8], &'a [u8], u8);
+use crate::row::{Row, Told, run_in_pieces, run_table};
+use mb_message::Buf;
 
 /// Two cables, and a packet of cable 0 between the bytes of a message on cable 1.
 const TWO_CABLES: &[u8] = &[
@@ -15,7 +11,7 @@ const TWO_CABLES: &[u8] = &[
     0,
 ];
 
-const CONVERTED: &[Cable<'_>] = &[
+const CONVERTED: &[Told] = &[
     (
         "a broken dump stays broken",
         &["convert", "usb:0", "din"],
@@ -127,7 +123,7 @@ const CONVERTED: &[Cable<'_>] = &[
     ),
 ];
 
-const LISTED: &[Cable<'_>] = &[
+const LISTED: &[Told] = &[
     (
         "a dump over three packets, a clock inside, another cable between",
         &["trace", "usb:3"],
@@ -203,23 +199,9 @@ const LISTED: &[Cable<'_>] = &[
 ];
 
 #[test]
-fn a_cable_is_read_in_any_cutting(rt: HostRuntime) -> Result<(), Fail> {
-    for rows in [CONVERTED, LISTED] {
-        for (shows, words, input, output, status) in rows {
-            let row = Row {
-                shows,
-                words,
-                input,
-                output,
-                status: *status,
-                text: said_at(*status),
-            };
-            for piece in [1, 2, 3, 5, 512] {
-                run(&rt, rt.alloc(), &row, piece, LIMIT)?;
-            }
-        }
-    }
-    Ok(())
+fn a_cable_is_read_in_any_cutting(rt: HostRuntime) {
+    run_table(&rt, rt.alloc(), CONVERTED);
+    run_table(&rt, rt.alloc(), LISTED);
 }
 
 /// A cable's packet: at the first turn a message, then data that runs under its status, as three bytes of a dump.
@@ -234,43 +216,55 @@ fn packet_of(cable: u8, turn: u8) -> [u8; 4]
     }
 }
 
+/// Three turns of all cables.
+fn all_cables() -> Buf {
+    let mut packets = Buf::new();
+    for turn in 0..3u8 {
+        for cable in 0..16u8 {
+            let _ = packets.try_extend_from_slice(&packet_of(cable, turn));
+        }
+    }
+    packets
+}
+
+/// What a cable becomes on a byte line.
+fn line_of(cable: u8) -> [u8; 9] {
+    let status = 0x90 | cable;
+    [status, 0x40, cable, 0x41, cable, 0x00, 0x42, cable, 0x00]
+}
+
 /// Each cable has a status of its own, which runs while all the others come between.
 #[test]
-fn sixteen_cables_run_side_by_side(rt: HostRuntime) -> Result<(), Fail> {
-    let mut input = [0u8; 192];
-    let mut index = 0u8;
-    for packet in input.chunks_exact_mut(4) {
-        packet.copy_from_slice(&packet_of(index % 16, index / 16));
-        index = index.wrapping_add(1);
-    }
-    for (cable, spec) in SPECS.iter().enumerate() {
-        let channel = cable as u8;
+fn sixteen_cables_run_side_by_side(rt: HostRuntime) {
+    let input = all_cables();
+    for (spec, cable) in SPECS {
         let row = Row {
             shows: spec,
             words: &["convert", spec, "din"],
-            input: &input,
-            output: &[
-                0x90 + channel,
-                0x40,
-                channel,
-                0x41,
-                channel,
-                0x00,
-                0x42,
-                channel,
-                0x00,
-            ],
+            input: input.as_slice(),
+            output: &line_of(*cable),
             status: 0,
             text: "",
         };
-        for piece in [1, 2, 3, 5, 512] {
-            run(&rt, rt.alloc(), &row, piece, LIMIT)?;
-        }
+        run_in_pieces(&rt, rt.alloc(), &row);
     }
-    Ok(())
 }
 
-const SPECS: &[&str] = &[
-    "usb:0", "usb:1", "usb:2", "usb:3", "usb:4", "usb:5", "usb:6", "usb:7", "usb:8", "usb:9",
-    "usb:10", "usb:11", "usb:12", "usb:13", "usb:14", "usb:15",
+const SPECS: &[(&str, u8)] = &[
+    ("usb:0", 0),
+    ("usb:1", 1),
+    ("usb:2", 2),
+    ("usb:3", 3),
+    ("usb:4", 4),
+    ("usb:5", 5),
+    ("usb:6", 6),
+    ("usb:7", 7),
+    ("usb:8", 8),
+    ("usb:9", 9),
+    ("usb:10", 10),
+    ("usb:11", 11),
+    ("usb:12", 12),
+    ("usb:13", 13),
+    ("usb:14", 14),
+    ("usb:15", 15),
 ];

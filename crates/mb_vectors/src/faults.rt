@@ -1,12 +1,16 @@
 //! Calls that fail, limits, and words that are no command.
 
-use crate::row::{ROOM, Row, desk, run, run_at, said_at, words};
-use mb_top::{LIMIT, bridge};
-use std::test::Fail;
+use crate::row::{Row, Setting, WHOLE, desk, run, said_at, words};
+use mb_top::bridge;
+use std::alloc::Global;
+use std::process::Abort;
 
 const TO_CABLE_0: &[&str] = &["convert", "din", "usb:0"];
 
 const TO_LINE: &[&str] = &["convert", "din", "din"];
+
+/// Room for all that a row writes.
+const ROOM: usize = WHOLE.room;
 
 const NOTE_ON: &[u8] = &[0x90, 0x3c, 0x64];
 
@@ -86,10 +90,9 @@ const CALLS: &[Faults] = &[
 
 /// After a fault stands what was known before, and what a read gives is written before the next one.
 #[test]
-fn after_a_fault_stands_what_was_known_before(rt: HostRuntime) -> Result<(), Fail> {
+fn after_a_fault_stands_what_was_known_before(rt: HostRuntime) {
     for (words, rows, input, piece) in CALLS {
-        assert!(rt; *piece > 0);
-        for (shows, call, room, status, output, text) in *rows {
+        for (shows, fault, room, status, output, text) in *rows {
             let row = Row {
                 shows,
                 words,
@@ -98,12 +101,15 @@ fn after_a_fault_stands_what_was_known_before(rt: HostRuntime) -> Result<(), Fai
                 status: *status,
                 text,
             };
-            let mut desk = desk(rt.alloc(), input, *piece, *room)?;
-            desk.plan_faults(&[*call])?;
-            run_at(&rt, rt.alloc(), &row, &mut desk, LIMIT)?;
+            let setting = Setting {
+                piece: *piece,
+                room: *room,
+                fault: Some(*fault),
+                ..WHOLE
+            };
+            run(&rt, rt.alloc(), &row, setting);
         }
     }
-    Ok(())
 }
 
 /// Words, how many bytes of three clocks may be read, what is written, and the status.
@@ -117,7 +123,7 @@ const LIMITS: &[Limit] = &[
 ];
 
 #[test]
-fn the_limit_is_looked_at_before_the_next_read(rt: HostRuntime) -> Result<(), Fail> {
+fn the_limit_is_looked_at_before_the_next_read(rt: HostRuntime) {
     for (words, limit, output, status) in LIMITS {
         let row = Row {
             shows: "three bytes at a limit",
@@ -127,10 +133,12 @@ fn the_limit_is_looked_at_before_the_next_read(rt: HostRuntime) -> Result<(), Fa
             status: *status,
             text: said_at(*status),
         };
-        assert!(rt; *limit > 0 && *limit <= LIMIT);
-        run(&rt, rt.alloc(), &row, 512, *limit)?;
+        let setting = Setting {
+            limit: *limit,
+            ..WHOLE
+        };
+        run(&rt, rt.alloc(), &row, setting);
     }
-    Ok(())
 }
 
 /// Words that are no command.
@@ -155,16 +163,18 @@ const NO_COMMANDS: &[&[&str]] = &[
     &["check", "usb:16"],
 ];
 
+/// Whether these words are answered by the usage alone.
+fn are_refused(rt: &impl Abort, alloc: Global, no_command: &[&str]) -> bool {
+    let args = words(rt, alloc, no_command);
+    let mut desk = desk(rt, alloc, NOTE_ON, WHOLE);
+    bridge(alloc, &args, &mut desk) == 2
+        && desk.is_written(1, &[])
+        && desk.is_written(2, USAGE.as_bytes())
+}
+
 #[test]
-fn words_that_are_no_command_read_and_write_nothing(rt: HostRuntime) -> Result<(), Fail> {
+fn words_that_are_no_command_read_and_write_nothing(rt: HostRuntime) {
     for no_command in NO_COMMANDS {
-        let args = words(rt.alloc(), no_command)?;
-        let mut desk = desk(rt.alloc(), NOTE_ON, 512, ROOM)?;
-        assert!(rt; bridge(rt.alloc(), &args, &mut desk) == 2, "{no_command:?}");
-        assert!(rt;
-            desk.is_written(1, &[]) && desk.is_written(2, USAGE.as_bytes()),
-            "{no_command:?}"
-        );
+        assert!(rt; are_refused(&rt, rt.alloc(), no_command), "{no_command:?}");
     }
-    Ok(())
 }

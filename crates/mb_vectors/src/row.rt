@@ -1,19 +1,12 @@
 //! One row of a table: words and an input, and what must come.
 
-ghost use Rattle.std.specs.Prelude.{◌<◌, ◌≤◌, ◌^◌};
-
-use mb_message::Memory;
 use mb_outside::{Args, MemoryDesk};
-use mb_top::bridge_within;
+use mb_top::{LIMIT, bridge_within};
 use std::alloc::Global;
 use std::process::Abort;
-use std::test::Fail;
-
-/// Room for all that a row writes.
-pub const ROOM: usize = 4096;
 
 /// What is run, and what must come of it.
-#[derive(Clone, Copy, Debug)]
+#[derive(Clone, Copy)]
 pub struct Row<'a> {
     /// What the row shows.
     pub shows: &'a str,
@@ -24,6 +17,16 @@ pub struct Row<'a> {
     /// What must stand on standard error.
     pub text: &'a str,
 }
+
+/// The same as it stands in tables: what the row shows, the words, the input, the output, and the status, which tells what
+/// must stand on standard error.
+pub type Told = (
+    &'static str,
+    &'static [&'static str],
+    &'static [u8],
+    &'static [u8],
+    u8,
+);
 
 /// What is said on standard error at a status, where there is room for it.
 pub fn said_at(status: u8) -> &'static str {
@@ -36,54 +39,73 @@ pub fn said_at(status: u8) -> &'static str {
     }
 }
 
+/// The desk that a row is run at, and how much may be read.
+#[derive(Clone, Copy)]
+pub struct Setting {
+    /// How many bytes a read gives.
+    pub piece: usize,
+    /// Room for what is written.
+    pub room: usize,
+    /// Which call fails, counted from 1.
+    pub fault: Option<u64>,
+    pub limit: u64,
+}
+
+/// The whole input in one piece, and nothing that fails.
+pub const WHOLE: Setting = Setting {
+    piece: 512,
+    room: 4096,
+    fault: None,
+    limit: LIMIT,
+};
+
 /// The words as a command line.
-pub fn words(alloc: Global, words: &[&str]) -> Result<Args, Memory> {
+pub fn words(rt: &impl Abort, alloc: Global, words: &[&str]) -> Args {
     let mut args = Args::new(alloc);
     for word in words {
-        args.push(word)?;
+        args.push(word).expect(rt, "memory");
     }
-    Ok(args)
+    args
 }
 
-/// A desk with an input that comes in pieces.
-pub fn desk(alloc: Global, input: &[u8], piece: usize, room: usize) -> Result<MemoryDesk, Memory>
-    requires { 0 < piece }
-{
-    let mut desk = MemoryDesk::new(alloc, room)?;
-    desk.put_input(input)?;
-    desk.set_piece(piece);
-    Ok(desk)
+/// A desk with an input.
+pub fn desk(rt: &impl Abort, alloc: Global, input: &[u8], setting: Setting) -> MemoryDesk {
+    let mut desk = MemoryDesk::new(alloc, setting.room).expect(rt, "memory");
+    desk.put_input(input).expect(rt, "memory");
+    if let Some(call) = setting.fault {
+        desk.plan_faults(&[call]).expect(rt, "memory");
+    }
+    desk.set_piece(setting.piece.max(1));
+    desk
 }
 
-/// Runs a row with its input in pieces of this size.
-pub fn run(
-    rt: &impl Abort,
-    alloc: Global,
-    row: &Row<'_>,
-    piece: usize,
-    limit: u64,
-) -> Result<(), Fail>
-    requires piece { 0 < piece }
-    requires least { 0 < limit }
-    requires most { limit ≤ 2 ^ 40 }
-{
-    let mut desk = desk(alloc, row.input, piece, ROOM)?;
-    run_at(rt, alloc, row, &mut desk, limit)
+/// Runs the rows of a table with their inputs in pieces of each size.
+pub fn run_table(rt: &impl Abort, alloc: Global, table: &[Told]) {
+    for (shows, words, input, output, status) in table {
+        let row = Row {
+            shows,
+            words,
+            input,
+            output,
+            status: *status,
+            text: said_at(*status),
+        };
+        run_in_pieces(rt, alloc, &row);
+    }
 }
 
-/// Runs a row at a desk that has its input.
-pub fn run_at(
-    rt: &impl Abort,
-    alloc: Global,
-    row: &Row<'_>,
-    desk: &mut MemoryDesk,
-    limit: u64,
-) -> Result<(), Fail>
-    requires least { 0 < limit }
-    requires most { limit ≤ 2 ^ 40 }
-{
-    let args = words(alloc, row.words)?;
-    let status = bridge_within(alloc, &args, desk, limit);
+/// Runs a row with its input in pieces of each size.
+pub fn run_in_pieces(rt: &impl Abort, alloc: Global, row: &Row<'_>) {
+    for piece in [1, 2, 3, 5, 512] {
+        run(rt, alloc, row, Setting { piece, ..WHOLE });
+    }
+}
+
+/// Runs a row.
+pub fn run(rt: &impl Abort, alloc: Global, row: &Row<'_>, setting: Setting) {
+    let args = words(rt, alloc, row.words);
+    let mut desk = desk(rt, alloc, row.input, setting);
+    let status = bridge_within(alloc, &args, &mut desk, setting.limit.min(LIMIT));
     assert!(rt; status == row.status, "{}: status {status}", row.shows);
     assert!(rt; desk.is_written(1, row.output), "{}: output", row.shows);
     assert!(rt;
@@ -91,5 +113,4 @@ pub fn run_at(
         "{}: text",
         row.shows
     );
-    Ok(())
 }
