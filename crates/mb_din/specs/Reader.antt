@@ -8,6 +8,7 @@
 --   IsLongest left seen     a run is the longest that stands side by side in the input
 --   breaks told             a message that was begun, or a SysEx, is broken by the next status
 --   StatusNext left         and that status still stands in the input, where nothing of it is kept (`Rests`)
+--   RunNext now input       a SysEx is open, and a byte of it begins the input
 --   TakesWhole was now ..   a piece was taken whole, and one thing told of it
 use Rattle.std.specs.Prelude.{◌≡◌, ℕ, ◌+◌, ◌<◌, ◌≤◌, Bool, true, false, ◌&&◌, List, [], ◌∷◌, ◌++◌, map, length}
 use Rattle.mb_message.specs.Bytes.{is_data, is_channel}
@@ -21,7 +22,7 @@ use Rattle.mb_stream.specs.Groups.{last_of}
 use Rattle.mb_stream.specs.Told.{Told, Marks, Notes, Known}
 use Rattle.mb_stream.specs.Reading.{so_far}
 use Rattle.mb_stream.specs.Working.{RisesFrom}
-use Rattle.mb_din.specs.State.{State, idle, state_of}
+use Rattle.mb_din.specs.State.{State, idle, state_of, open_now}
 
 -- offsets rise from the first number on, and all are below the second
 abbrev pub RisesTo : (low high : ℕ) → List Entry → Type 0
@@ -89,6 +90,10 @@ breaks _ = false
 abbrev pub StatusNext : List ℕ → Type 0
 StatusNext [] = ⊥
 StatusNext (b ∷ bs) = is_data b ≡ false
+
+abbrev pub RunNext : State → List ℕ → Type 0
+RunNext s [] = ⊥
+RunNext s (b ∷ bs) = (is_data b ≡ true) × (open_now s ≡ true)
 
 abbrev pub is_all_data : List ℕ → Bool
 is_all_data [] = true

@@ -6,10 +6,11 @@ ghost use Rattle.mb_stream.specs.Payload.{Entry, Silent, heard_from};
 ghost use Rattle.mb_stream.specs.Groups.{last_of, is_sysex};
 ghost use Rattle.mb_stream.specs.Told.{Known, at_end, may_run};
 ghost use Rattle.mb_stream.specs.Reading.{so_far};
+ghost use Rattle.mb_stream.specs.ReaderLaw.{has_short, begins_run};
 ghost use Rattle.mb_stream.specs.Working.{RisesFrom};
 ghost use Rattle.mb_din.specs.State.{owed, open_now, free_now, may_run_now, fresh, is_sound, Rests};
 ghost use Rattle.mb_din.specs.Turn.{answer, told_by, one, run, turn};
-ghost use Rattle.mb_din.specs.Reader.{Stands, Goes, IsFront, IsFrontTaken, IsLongest, TakesWhole, breaks, StatusNext, is_all_data};
+ghost use Rattle.mb_din.specs.Reader.{Stands, Goes, IsFront, IsFrontTaken, IsLongest, TakesWhole, breaks, StatusNext, RunNext, is_all_data};
 
 use crate::progress::{
     Progress, at_end, before_status, is_free, is_open, is_running, message, realtime, short,
@@ -83,6 +84,12 @@ impl DinReader {
         // What a status breaks is told of before the status is taken: it still stands in the input, and nothing is begun,
         // running or open.
         ensures before { breaks (answer result) ≡ true → StatusNext input.new.now × Rests self.new }
+
+        // Behind a short message nothing is begun and no SysEx is open: a status may run from here on without a byte of its own.
+        ensures free { has_short (answer result) ≡ true → free_now self.new ≡ true }
+
+        // A run is told only where a SysEx was open and the run begins the input.
+        ensures runs { begins_run (answer result) ≡ true → RunNext self.old input.old.now }
 
         // A caller's loop ends by this.
         ensures progress { OnSome result (2 * length input.new.now + owed self.new < 2 * length input.old.now + owed self.old) }
@@ -180,6 +187,7 @@ impl DinReader {
         ensures told { (entries : List Entry) → Stands self.old entries (so_far entries) → answer result ≡ at_end (last_of entries) }
         ensures some { OnSome result (answer result ≡ [] → ⊥) }
         ensures as_fresh { self.new ≡ record fresh { offset = self.old.offset } }
+        ensures falls { OnSome result (owed self.new < owed self.old) }
         ensures stands { Stands self.new [] [] }
     {
         let told = at_end(self.progress);
