@@ -2,18 +2,22 @@
 --
 --   payload_of s bytes     the byte stream that a recording carries on the port that a spec names
 --   known s bytes          what becomes known at the recording's bytes, in order
---   end_of s bytes         what only its end makes known
+--   end_told s bytes       what only its end makes known
 --   reading_of s bytes     both, the marks and notes of the port
 --   marks_of, notes_of     the marks of a reading, and its notes
 --   den s bytes            what a recording denotes on its port
 --   whole s bytes          the recording doesn't stop inside a packet
---   written s ms           what a list of marks is written as
---   live s ms              the same without what the writer's finish adds
-use Rattle.std.specs.Prelude.{ℕ, Bool, true, List, map, flat_map}
+--   moment_of s ms k       the moment of what becomes known, the moments of the bytes given
+--   puts_of s ms bytes     the marks of a reading with their moments; puts_so_far: those that become known at its bytes
+--   written s puts         what marks with their moments, and flushes, are written as
+--   live s puts            the same without what the writer's finish adds
+--   room_of, longest_of    the free bytes that a writer asks for, and the longest run of SysEx data that it takes
+use Rattle.std.specs.Prelude.{ℕ, zero, suc, Bool, true, List, [], ◌∷◌, ◌++◌, map, flat_map, length}
 use Rattle.mb_message.specs.Signs.{Sign}
 use Rattle.mb_stream.specs.Payload.{Entry}
 use Rattle.mb_stream.specs.Groups.{last_of}
-use Rattle.mb_stream.specs.Told.{Known, Told, at_end}
+use Rattle.mb_stream.specs.Told.{Known, Told, Marks, Notes, at_end}
+use Rattle.mb_stream.specs.Puts.{Put, At, signs_in, puts_at}
 use Rattle.mb_stream.specs.Order.{in_order}
 use Rattle.mb_stream.specs.Reading as stream
 use Rattle.mb_stream.specs.Reading.{Part, Remark, part_of, sign_in, signs_of}
@@ -65,11 +69,49 @@ abbrev pub whole : Spec → List ℕ → Bool
 whole Din bytes = true
 whole (Usb cable) bytes = usb_whole bytes
 
-abbrev pub written : Spec → List Sign → List ℕ
-written Din ms = din_written ms
-written (Usb cable) ms = usb_written cable ms
+-- Where a carrier has no clock, what becomes known has the moment of the byte at which it does.
+abbrev pub moment_of : Spec → (moments : ℕ → ℕ) → Known → ℕ
+moment_of Din moments k = moments k.at
+moment_of (Usb cable) moments k = moments k.at
+
+abbrev pub put_in : (moment : ℕ) → Told → List Put
+put_in moment (Marks m) = At moment m ∷ []
+put_in moment (Notes at kind) = []
+
+-- the marks among what is known, with their moments
+abbrev pub puts_known : Spec → (moments : ℕ → ℕ) → List Known → List Put
+puts_known s moments ks = flat_map (λ k. put_in (moment_of s moments k) k.told) ks
+
+abbrev pub puts_so_far : Spec → (moments : ℕ → ℕ) → List ℕ → List Put
+puts_so_far s moments bytes = puts_known s moments (known s bytes)
+
+-- the moment of the last of so many bytes, and 0 before any
+abbrev pub last_byte_moment : (moments : ℕ → ℕ) → ℕ → ℕ
+last_byte_moment moments zero = 0
+last_byte_moment moments (suc n) = moments n
+
+-- the moment of what only the end makes known
+abbrev pub end_moment : Spec → (moments : ℕ → ℕ) → List ℕ → ℕ
+end_moment Din moments bytes = last_byte_moment moments (length bytes)
+end_moment (Usb cable) moments bytes = last_byte_moment moments (length bytes)
+
+-- the marks of a reading, with their moments
+abbrev pub puts_of : Spec → (moments : ℕ → ℕ) → List ℕ → List Put
+puts_of s moments bytes = puts_so_far s moments bytes ++ puts_at (end_moment s moments bytes) (told_signs (end_told s bytes))
+
+abbrev pub written : Spec → List Put → List ℕ
+written Din puts = din_written (signs_in puts)
+written (Usb cable) puts = usb_written cable (signs_in puts)
 
 -- a byte line's writer holds nothing back
-abbrev pub live : Spec → List Sign → List ℕ
-live Din ms = din_written ms
-live (Usb cable) ms = usb_live cable ms
+abbrev pub live : Spec → List Put → List ℕ
+live Din puts = din_written (signs_in puts)
+live (Usb cable) puts = usb_live cable (signs_in puts)
+
+abbrev pub room_of : Spec → ℕ
+room_of Din = 16
+room_of (Usb cable) = 24
+
+abbrev pub longest_of : Spec → ℕ
+longest_of Din = 16
+longest_of (Usb cable) = 16

@@ -1,12 +1,14 @@
 pub mod Carrier
 pub mod Conversion
 pub mod DinLaws
+pub mod Fill
 pub mod Hop
 pub mod Laws
 pub mod Line
 pub mod Lines
 pub mod Listing
 pub mod Port
+pub mod SpecLaws
 pub mod Step
 pub mod UsbLaws
 pub mod Word

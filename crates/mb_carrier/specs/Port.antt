@@ -1,9 +1,10 @@
 -- What readers and writers of any port stand for, by their carrier.
 use Rattle.std.specs.Prelude.{◌≡◌, ℕ, Bool, true, false, not, ◌==◌, List, take}
-use Rattle.mb_message.specs.Signs.{Sign}
 use Rattle.mb_stream.specs.Told.{Known}
+use Rattle.mb_stream.specs.Puts.{Put, signs_in}
 use Rattle.mb_din.specs.Writer as din
 use Rattle.mb_usb.specs.Writer as usb
+use Rattle.mb_din.specs.Reader.{StatusNext}
 use Rattle.mb_din.specs.State as din_state
 use Rattle.mb_din.specs.State.{Rests}
 use Rattle.mb_usb.specs.Cables.{CableStands}
@@ -30,12 +31,13 @@ abbrev pub in_sysex_by : WriterOf → Bool
 in_sysex_by (writer.Din w) = w.in_sysex
 in_sysex_by (writer.Usb w) = w.in_sysex
 
-abbrev pub WriterStandsBy : WriterOf → List Sign → Type 0
-WriterStandsBy (writer.Din w) marks = din.Stands w marks × (w.running ≡ true)
-WriterStandsBy (writer.Usb w) marks = usb.Stands w marks
+abbrev pub WriterStandsBy : WriterOf → List Put → Type 0
+WriterStandsBy (writer.Din w) puts = din.Stands w (signs_in puts) × (w.running ≡ true)
+WriterStandsBy (writer.Usb w) puts = usb.Stands w (signs_in puts)
 
-abbrev pub WriterStands : PortWriter → List Sign → Type 0
-WriterStands w marks = WriterStandsBy w.carrier marks
+-- it was given these marks at their moments, and these flushes
+abbrev pub WriterStands : PortWriter → List Put → Type 0
+WriterStands w puts = WriterStandsBy w.carrier puts
 
 -- whether a SysEx is open
 abbrev pub writer_in_sysex : PortWriter → Bool
@@ -63,6 +65,14 @@ ReaderRestsBy (reader.Usb r) = Rests r.reader
 abbrev pub ReaderRests : PortReader → Type 0
 ReaderRests r = ReaderRestsBy r.carrier
 
+-- what breaks a message stands next: a status in the input
+abbrev pub BrokenNextBy : ReaderOf → List ℕ → Type 0
+BrokenNextBy (reader.Din r) input = StatusNext input
+BrokenNextBy (reader.Usb r) input = StatusNext input
+
+abbrev pub BrokenNext : PortReader → List ℕ → Type 0
+BrokenNext r input = BrokenNextBy r.carrier input
+
 -- how many bytes it took
 abbrev pub reader_offset_by : ReaderOf → ℕ
 reader_offset_by (reader.Din r) = r.offset
@@ -71,13 +81,25 @@ reader_offset_by (reader.Usb r) = r.packet.offset
 abbrev pub reader_offset : PortReader → ℕ
 reader_offset r = reader_offset_by r.carrier
 
--- whether something that takes no byte may be told next: 1, else 0
+-- how much may be told before a byte is taken
 abbrev pub reader_owed_by : ReaderOf → ℕ
 reader_owed_by (reader.Din r) = din_state.owed r
 reader_owed_by (reader.Usb r) = usb_state.owed_one r
 
 abbrev pub reader_owed : PortReader → ℕ
 reader_owed r = reader_owed_by r.carrier
+
+-- the moment of what was told last, where one was set: that one, if the carrier has no clock
+abbrev pub reader_moment_by : ReaderOf → (moment_set : ℕ) → ℕ
+reader_moment_by (reader.Din r) moment_set = moment_set
+reader_moment_by (reader.Usb r) moment_set = moment_set
+
+abbrev pub reader_moment : PortReader → (moment_set : ℕ) → ℕ
+reader_moment r moment_set = reader_moment_by r.carrier moment_set
+
+-- the moment that was set
+abbrev pub moment_set : PortReader → ℕ
+moment_set r = r.moment
 
 -- the bytes of the port that stand side by side at the front of an input, as far as is known
 abbrev pub beside_by : ReaderOf → List ℕ → List ℕ

@@ -2,8 +2,8 @@
 
 ghost use Rattle.std.specs.Prelude.{ℕ, List};
 
-use crate::{EventReader, EventWriter};
-use mb_din::{DinReader, DinWriter};
+use crate::{EventReader, EventWriter, LONGEST_RUN};
+use mb_din::{DinReader, DinWriter, PUT_ROOM};
 use mb_message::{Buf, Ev, Seen};
 
 impl EventReader for DinReader {
@@ -12,6 +12,7 @@ impl EventReader for DinReader {
     ghost use Rattle.mb_din.specs.State.{Rests};
     ghost use Rattle.mb_carrier.specs.Line.{LineStands};
     ghost use Rattle.mb_carrier.specs.declared.spec.Spec.TheVariants.{Din};
+    ghost use Rattle.mb_din.specs.Reader.{StatusNext};
     ghost use Rattle.mb_carrier.specs.DinLaws.{known-stays, marks-end, marks-suit};
 
     ghost spec = { λ r. Din };
@@ -19,6 +20,10 @@ impl EventReader for DinReader {
     ghost offset = { λ r. r.offset };
 
     ghost owed = { λ r. state.owed r };
+
+    ghost moment = { λ r moment_set. moment_set };
+
+    ghost broken_next = { λ r input. StatusNext input };
 
     ghost beside = { λ r input. input };
 
@@ -38,6 +43,11 @@ impl EventReader for DinReader {
         DinReader::finish(self)
     }
 
+    #[inline(always)]
+    fn moment(&self, moment_set: u64) -> u64 {
+        moment_set
+    }
+
     ghost stays = { λ r bytes more. known-stays bytes more };
 
     ghost ends = { λ r bytes. marks-end bytes };
@@ -47,19 +57,35 @@ impl EventReader for DinReader {
 
 impl EventWriter for DinWriter {
     ghost use Rattle.std.specs.Prelude.{◌≡◌, true};
+    ghost use Rattle.mb_stream.specs.Puts.{signs_in};
     ghost use Rattle.mb_din.specs.Writer.{Writer, Stands};
     ghost use Rattle.mb_carrier.specs.declared.spec.Spec.TheVariants.{Din};
-    ghost use Rattle.mb_carrier.specs.DinLaws.{live-stays, live-closes};
 
     ghost spec = { λ w. Din };
 
     ghost in_sysex = { λ w. w.in_sysex };
 
-    ghost stands = { λ w marks. Stands w marks × (w.running ≡ true) };
+    ghost stands = { λ w puts. Stands w (signs_in puts) × (w.running ≡ true) };
 
     #[inline(always)]
-    fn put(&mut self, ev: Ev<'_>, out: &mut Buf) {
+    fn room(&self) -> usize {
+        PUT_ROOM
+    }
+
+    #[inline(always)]
+    fn longest(&self) -> usize {
+        LONGEST_RUN
+    }
+
+    #[inline(always)]
+    fn put(&mut self, moment: u64, ev: Ev<'_>, out: &mut Buf) {
+        let _ = moment;
         DinWriter::put(self, ev, out);
+    }
+
+    #[inline(always)]
+    fn flush(&mut self, out: &mut Buf) {
+        let _ = out;
     }
 
     #[inline(always)]
@@ -67,11 +93,5 @@ impl EventWriter for DinWriter {
         DinWriter::finish(self, out);
     }
 
-    ghost each_suits = { λ w marks stands. (stands.0).each_suits };
-
-    ghost stays = { λ w marks more suits. live-stays marks more };
-
-    ghost closes = { λ w marks suits. live-closes marks };
-
-    ghost open_now = { λ w marks stands. (stands.0).open_now };
+    ghost open_now = { λ w puts stands. (stands.0).open_now };
 }

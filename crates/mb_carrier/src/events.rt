@@ -1,22 +1,23 @@
 //! Readers and writers of one port, as a hop's loop sees them: it is written once, over these traits.
 
-ghost use Rattle.std.specs.Prelude.{◌≡◌, ℕ, ◌+◌, ◌*◌, ◌^◌, ◌<◌, ◌≤◌, Bool, true, List, [], ◌++◌, length, OnSome, IfSome, IfNone};
+ghost use Rattle.std.specs.Prelude.{◌≡◌, ℕ, ◌+◌, ◌*◌, ◌^◌, ◌<◌, ◌≤◌, Bool, true, false, List, [], ◌∷◌, ◌++◌, length, OnSome, IfSome, IfNone};
 ghost use Rattle.arrayvec.specs.ArrayVec.{array_vec_len};
-ghost use Rattle.mb_message.specs.Signs.{Sign, suits_event, IsShortRun, open_behind, signs_of_event};
+ghost use Rattle.mb_message.specs.Signs.{suits_event, IsRunOf, open_behind, signs_of_event};
+ghost use Rattle.mb_stream.specs.Appended.{Appended};
+ghost use Rattle.mb_stream.specs.Puts.{Put, Flush, signs_in, puts_at};
 ghost use Rattle.mb_stream.specs.Standing.{suited, is_open};
 ghost use Rattle.mb_stream.specs.Told.{Known};
-ghost use Rattle.mb_din.specs.Reader.{IsLongest, breaks, StatusNext};
+ghost use Rattle.mb_din.specs.Reader.{IsLongest, breaks};
 ghost use Rattle.mb_din.specs.Turn.{answer};
 ghost use Rattle.mb_outside.specs.Taking.{IsFront};
-ghost use Rattle.mb_carrier.specs.Carrier.{known, end_told, told_signs, marks_of, marks_so_far, live, written};
-ghost use Rattle.mb_carrier.specs.Hop.{ReaderGoes, Puts};
-ghost use Rattle.mb_carrier.specs.Word.{IsSpec};
+ghost use Rattle.mb_carrier.specs.Carrier.{known, end_told, told_signs, marks_of, marks_so_far, last_byte_moment, end_moment, room_of, longest_of, live, written};
+ghost use Rattle.mb_carrier.specs.Hop.{ReaderGoes};
 ghost use Rattle.mb_carrier.specs.declared.spec.Spec.{Spec};
 
 use mb_message::{Buf, Ev, Seen};
 
-/// The free bytes that a writer's `put` and `finish` ask for.
-pub const ROOM: usize = 24;
+/// The longest run of SysEx data that a byte line's and a cable's writer take.
+pub(crate) const LONGEST_RUN: usize = 16;
 
 /// A reader of one port.
 pub trait EventReader {
@@ -26,8 +27,14 @@ pub trait EventReader {
     /// How many bytes it took.
     ghost offset: { Self → ℕ };
 
-    /// Whether something that takes no byte may be told next: 1, else 0.
+    /// How much may be told before a byte is taken.
     ghost owed: { Self → ℕ };
+
+    /// The moment of what it told last, or tells at the end, where one was set: that one, if its carrier has no clock.
+    ghost moment: { Self → (moment_set : ℕ) → ℕ };
+
+    /// What breaks a message stands next: a status in the input, or, where a carrier's packets end messages, a packet's end.
+    ghost broken_next: { Self → List ℕ → Type 0 };
 
     /// The bytes of its port that stand side by side at the front of an input, as far as it knows.
     ghost beside: { Self → List ℕ → List ℕ };
@@ -43,16 +50,16 @@ pub trait EventReader {
 
     /// The next mark or note of the bytes taken before and of the input, which it takes from the front of the input.
     fn next<'a>(&mut self, input: &mut &'a [u8]) -> Option<Seen<'a>>
-        requires early { offset self.old + length input.old.now < 2 ^ 63 }
+        requires early { offset self.old + length input.old.now ≤ 2 ^ 51 + 2 ^ 14 }
         ensures spec { spec self.new ≡ spec self.old }
         ensures end { offset self.new + length input.new.now ≡ offset self.old + length input.old.now }
         ensures progress { OnSome result (2 * length input.new.now + owed self.new < 2 * length input.old.now + owed self.old) }
         ensures some { OnSome result (answer result ≡ [] → ⊥) }
         ensures none { IfNone result (input.new.now ≡ []) }
         ensures longest { IfSome result (IsLongest (beside self.new input.new.now)) }
-        ensures before { breaks (answer result) ≡ true → StatusNext input.new.now × rests self.new }
+        ensures before { breaks (answer result) ≡ true → broken_next self.new input.new.now × rests self.new }
         ensures goes { (bytes : List ℕ) (told : List Known) → stands self.old bytes told → IsFront told (known (spec self.old) (bytes ++ input.old.now)) →
-            ReaderGoes (known (spec self.old)) (stands self.new) input.old.now input.new.now (answer result) bytes told }
+            ReaderGoes (spec self.old) (stands self.new) (moment self.new) input.old.now input.new.now (answer result) bytes told }
         ensures all_told { IfNone result ((bytes : List ℕ) (told : List Known) → stands self.old bytes told → IsFront told (known (spec self.old) (bytes ++ input.old.now)) →
             told ≡ known (spec self.old) (bytes ++ input.old.now)) };
 
@@ -63,7 +70,13 @@ pub trait EventReader {
         ensures partial { is_partial self.new ≡ is_partial self.old }
         ensures rests { rests self.new }
         ensures told { (bytes : List ℕ) → stands self.old bytes (known (spec self.old) bytes) → answer result ≡ end_told (spec self.old) bytes }
-        ensures some { OnSome result (answer result ≡ [] → ⊥) };
+        ensures some { OnSome result (answer result ≡ [] → ⊥) }
+        ensures at { (bytes : List ℕ) → stands self.old bytes (known (spec self.old) bytes) → (moments : ℕ → ℕ) (moment_set : ℕ) →
+            last_byte_moment moments (length bytes) ≡ moment_set → end_moment (spec self.old) moments bytes ≡ moment self.new moment_set };
+
+    /// The moment of what was told last, where this one was set.
+    fn moment(&self, moment_set: u64) -> u64
+        ensures { result ≡ moment self.now moment_set };
 
     /// What is known of some bytes stays known.
     ghost stays: { (r : Self) (bytes more : List ℕ) → IsFront (known (spec r) bytes) (known (spec r) (bytes ++ more)) };
@@ -83,35 +96,51 @@ pub trait EventWriter {
     /// Whether a SysEx is open.
     ghost in_sysex: { Self → Bool };
 
-    /// It was given these marks.
-    ghost stands: { Self → List Sign → Type 0 };
+    /// It was given these marks at their moments, and these flushes.
+    ghost stands: { Self → List Put → Type 0 };
 
-    /// Appends what an event is written as.
-    fn put(&mut self, ev: Ev<'_>, out: &mut Buf)
-        requires room { array_vec_len out.old + ROOM ≤ 1024 }
+    /// The free bytes that each of its calls asks for.
+    fn room(&self) -> usize
+        ensures room { result ≡ room_of (spec self.now) }
+        ensures fits { result ≤ 1024 };
+
+    /// How many bytes the longest run has that `put` takes.
+    fn longest(&self) -> usize
+        ensures longest { result ≡ longest_of (spec self.now) }
+        ensures some { 0 < result };
+
+    /// Appends what an event at its moment is written as, or as much of it as is known now.
+    fn put(&mut self, moment: u64, ev: Ev<'_>, out: &mut Buf)
+        requires room { array_vec_len out.old + room_of (spec self.old) ≤ 1024 }
         requires suits { suits_event (in_sysex self.old) ev ≡ true }
-        requires run { IsShortRun ev }
+        requires run { IsRunOf (longest_of (spec self.old)) ev }
         ensures spec { spec self.new ≡ spec self.old }
         ensures in_sysex { in_sysex self.new ≡ open_behind (in_sysex self.old) ev.entry }
-        ensures puts { (marks : List Sign) (base : List ℕ) → stands self.old marks → live (spec self.old) marks ≡ base ++ out.old.items →
-            Puts (live (spec self.old)) (stands self.old) (stands self.new) (signs_of_event ev.entry) out.old.items out.new.items marks base };
+        ensures len { array_vec_len out.new ≤ array_vec_len out.old + room_of (spec self.old) }
+        ensures stands { (puts : List Put) → stands self.old puts → stands self.new (puts ++ puts_at moment (signs_of_event ev.entry)) }
+        ensures written { (puts : List Put) → stands self.old puts → Appended out.old.items out.new.items
+            (live (spec self.old) puts) (live (spec self.old) (puts ++ puts_at moment (signs_of_event ev.entry))) };
 
-    /// Appends what the end of the list of marks adds. Afterwards the writer is as new.
-    fn finish(&mut self, out: &mut Buf)
-        requires room { array_vec_len out.old + ROOM ≤ 1024 }
+    /// Ends the packet under way, if there is one.
+    fn flush(&mut self, out: &mut Buf)
+        requires room { array_vec_len out.old + room_of (spec self.old) ≤ 1024 }
         ensures spec { spec self.new ≡ spec self.old }
-        ensures stands { (marks : List Sign) → stands self.old marks → stands self.new [] }
-        ensures ends { (marks : List Sign) (base : List ℕ) → stands self.old marks → live (spec self.old) marks ≡ base ++ out.old.items →
-            written (spec self.old) marks ≡ base ++ out.new.items };
+        ensures in_sysex { in_sysex self.new ≡ in_sysex self.old }
+        ensures len { array_vec_len out.new ≤ array_vec_len out.old + room_of (spec self.old) }
+        ensures stands { (puts : List Put) → stands self.old puts → stands self.new (puts ++ Flush ∷ []) }
+        ensures written { (puts : List Put) → stands self.old puts → Appended out.old.items out.new.items
+            (live (spec self.old) puts) (live (spec self.old) (puts ++ Flush ∷ [])) };
 
-    /// What it was given suits.
-    ghost each_suits: { (w : Self) (marks : List Sign) → stands w marks → suited marks ≡ true };
+    /// Appends what the end of the list adds. Afterwards the writer is as new.
+    fn finish(&mut self, out: &mut Buf)
+        requires room { array_vec_len out.old + room_of (spec self.old) ≤ 1024 }
+        ensures spec { spec self.new ≡ spec self.old }
+        ensures in_sysex { in_sysex self.new ≡ false }
+        ensures len { array_vec_len out.new ≤ array_vec_len out.old + room_of (spec self.old) }
+        ensures stands { (puts : List Put) → stands self.old puts → stands self.new [] }
+        ensures written { (puts : List Put) → stands self.old puts → Appended out.old.items out.new.items
+            (live (spec self.old) puts) (written (spec self.old) puts) };
 
-    /// What is written of some marks stays written.
-    ghost stays: { (w : Self) (marks more : List Sign) → suited (marks ++ more) ≡ true → IsFront (live (spec w) marks) (live (spec w) (marks ++ more)) };
-
-    /// What the end adds stands behind it.
-    ghost closes: { (w : Self) (marks : List Sign) → suited marks ≡ true → IsFront (live (spec w) marks) (written (spec w) marks) };
-
-    ghost open_now: { (w : Self) (marks : List Sign) → stands w marks → in_sysex w ≡ is_open marks };
+    /// Whether a SysEx is open is as the marks say that it was given.
+    ghost open_now: { (w : Self) (puts : List Put) → stands w puts → in_sysex w ≡ is_open (signs_in puts) };
 }

@@ -1,116 +1,77 @@
-//! A hop between any two ports: the carriers are matched once a piece.
+//! A hop between any two ports: the carriers are matched once a buffer.
 
-ghost use Rattle.std.specs.Prelude.{◌≡◌, ℕ, ◌+◌, ◌^◌, ◌<◌, List, length, OnOk, OnErr};
-ghost use Rattle.mb_outside.specs.Cause.{HasCause};
-ghost use Rattle.mb_carrier.specs.Hop.{Fed, FedHalted, Ended, EndHalted, HopStands};
-ghost use Rattle.mb_carrier.specs.Listing.{ListStands, ListFed, ListHalted, ListEnded, ListEndHalted};
-ghost use Rattle.mb_carrier.specs.Port.{reader_spec, reader_offset, ReaderStands, writer_spec, WriterStands};
+ghost use Rattle.std.specs.Prelude.{◌≡◌, ℕ, ◌+◌, ◌^◌, ◌<◌, ◌≤◌, List, [], length, Some};
+ghost use Rattle.mb_stream.specs.Puts.{Put};
+ghost use Rattle.mb_carrier.specs.Fill.{OnItsWay, More, unread, work, HasMoment};
+ghost use Rattle.mb_carrier.specs.Port.{reader_spec, reader_offset, reader_owed, reader_moment, ReaderStands, writer_spec, WriterStands};
 
-use crate::feed::{feed_pair, finish_pair};
-use crate::listing::{list_last, list_pair};
+use crate::fill::fill_pair;
 use crate::reader::{PortReader, ReaderOf};
 use crate::writer::{PortWriter, WriterOf};
-use mb_outside::{Out, Refused};
+use crate::{EventReader, Piece};
+use mb_message::Buf;
 
-/// Reads a piece to its end and writes all that it gives. After `Refused` a front of it was handed on.
-pub fn feed_hop<K: Out>(
+/// Reads a piece on and writes what it gives into an empty buffer, until the piece is used up, or the buffer has no room for one
+/// more event: then it answers what is left of the piece. Where moments are kept apart, it stops also before an event of another
+/// moment, so that all that it writes has the moment that the reader named before.
+pub fn fill_hop<'a>(
     reader: &mut PortReader,
     writer: &mut PortWriter,
-    piece: &[u8],
-    out: &mut K,
-) -> Result<(), Refused>
-    requires early { reader_offset reader.old + length piece.now < 2 ^ 63 }
-    requires ready { K.ready out.old }
-    requires stands { (bytes : List ℕ) × HopStands (reader_spec reader.old) (ReaderStands reader.old) (WriterStands writer.old) bytes }
+    apart: bool,
+    piece: Piece<'a>,
+    held: &mut Buf,
+) -> Option<Piece<'a>>
+    requires early { reader_offset reader.old + length piece.rest.now ≤ 2 ^ 51 + 2 ^ 14 }
+    requires empty { held.old.items ≡ [] }
+    requires flows { (moments : ℕ → ℕ) × (bytes : List ℕ) × (puts : List Put) × (base : List ℕ) ×
+        OnItsWay (reader_spec reader.old) (writer_spec writer.old) moments (reader_moment reader.old) (ReaderStands reader.old)
+        (WriterStands writer.old) bytes (Some piece) puts base held.old.items }
     ensures reads { reader_spec reader.new ≡ reader_spec reader.old }
     ensures writes { writer_spec writer.new ≡ writer_spec writer.old }
-    ensures offset { OnOk result (reader_offset reader.new ≡ reader_offset reader.old + length piece.now) }
-    ensures ready { K.ready out.new }
-    ensures cause { HasCause (K.refusals out.old) (K.refusals out.new) result }
-    ensures sound { OnOk result (K.refusals out.new ≡ K.refusals out.old) }
-    ensures fed { OnOk result (Fed (reader_spec reader.old) (writer_spec writer.old) (ReaderStands reader.old) (WriterStands writer.old)
-        (ReaderStands reader.new) (WriterStands writer.new) piece.now (λ given. K.took out.old given out.new)) }
-    ensures halted { OnErr result (FedHalted (reader_spec reader.old) (writer_spec writer.old) (ReaderStands reader.old) (WriterStands writer.old)
-        piece.now (λ given. K.took out.old given out.new)) }
+    ensures offset { reader_offset reader.new + unread result ≡ reader_offset reader.old + length piece.entry.rest.now }
+    ensures goes_on { (moments : ℕ → ℕ) (bytes : List ℕ) (puts : List Put) (base : List ℕ) →
+        OnItsWay (reader_spec reader.old) (writer_spec writer.old) moments (reader_moment reader.old) (ReaderStands reader.old)
+        (WriterStands writer.old) bytes (Some piece.entry) puts base held.old.items →
+        More apart (reader_moment reader.old piece.entry.moment) puts (λ ps.
+        OnItsWay (reader_spec reader.old) (writer_spec writer.old) moments (reader_moment reader.new) (ReaderStands reader.new)
+        (WriterStands writer.new) bytes result ps base held.new.items) }
+    ensures moment { HasMoment piece.entry.moment result }
+    ensures progress { work (reader_owed reader.new) result < work (reader_owed reader.old) (Some piece.entry) }
 {
-    match (&mut reader.carrier, &mut writer.carrier) {
-        (ReaderOf::Din(reader), WriterOf::Din(writer)) => feed_pair(reader, writer, piece, out),
-        (ReaderOf::Din(reader), WriterOf::Usb(writer)) => feed_pair(reader, writer, piece, out),
-        (ReaderOf::Usb(reader), WriterOf::Din(writer)) => feed_pair(reader, writer, piece, out),
-        (ReaderOf::Usb(reader), WriterOf::Usb(writer)) => feed_pair(reader, writer, piece, out),
+    match &mut reader.carrier {
+        ReaderOf::Din(reader) => fill_from(reader, writer, apart, piece, held),
+        ReaderOf::Usb(reader) => fill_from(reader, writer, apart, piece, held),
     }
 }
 
-/// Writes what only the end makes known, and what the writer holds back. After `Refused` a front of it was handed on.
-pub fn finish_hop<K: Out>(
-    reader: &mut PortReader,
+/// The same, the reader's carrier being known.
+#[inline(always)]
+fn fill_from<'a, R: EventReader>(
+    reader: &mut R,
     writer: &mut PortWriter,
-    out: &mut K,
-) -> Result<(), Refused>
-    requires ready { K.ready out.old }
-    requires stands { (bytes : List ℕ) × HopStands (reader_spec reader.old) (ReaderStands reader.old) (WriterStands writer.old) bytes }
-    ensures reads { reader_spec reader.new ≡ reader_spec reader.old }
+    apart: bool,
+    piece: Piece<'a>,
+    held: &mut Buf,
+) -> Option<Piece<'a>>
+    requires early { R.offset reader.old + length piece.rest.now ≤ 2 ^ 51 + 2 ^ 14 }
+    requires empty { held.old.items ≡ [] }
+    requires flows { (moments : ℕ → ℕ) × (bytes : List ℕ) × (puts : List Put) × (base : List ℕ) ×
+        OnItsWay (R.spec reader.old) (writer_spec writer.old) moments (R.moment reader.old) (R.stands reader.old)
+        (WriterStands writer.old) bytes (Some piece) puts base held.old.items }
+    ensures reads { R.spec reader.new ≡ R.spec reader.old }
     ensures writes { writer_spec writer.new ≡ writer_spec writer.old }
-    ensures ready { K.ready out.new }
-    ensures cause { HasCause (K.refusals out.old) (K.refusals out.new) result }
-    ensures sound { OnOk result (K.refusals out.new ≡ K.refusals out.old) }
-    ensures ended { OnOk result (Ended (reader_spec reader.old) (writer_spec writer.old) (ReaderStands reader.old) (WriterStands writer.old)
-        (λ given. K.took out.old given out.new)) }
-    ensures halted { OnErr result (EndHalted (reader_spec reader.old) (writer_spec writer.old) (ReaderStands reader.old) (WriterStands writer.old)
-        (λ given. K.took out.old given out.new)) }
+    ensures offset { R.offset reader.new + unread result ≡ R.offset reader.old + length piece.entry.rest.now }
+    ensures goes_on { (moments : ℕ → ℕ) (bytes : List ℕ) (puts : List Put) (base : List ℕ) →
+        OnItsWay (R.spec reader.old) (writer_spec writer.old) moments (R.moment reader.old) (R.stands reader.old)
+        (WriterStands writer.old) bytes (Some piece.entry) puts base held.old.items →
+        More apart (R.moment reader.old piece.entry.moment) puts (λ ps.
+        OnItsWay (R.spec reader.old) (writer_spec writer.old) moments (R.moment reader.new) (R.stands reader.new)
+        (WriterStands writer.new) bytes result ps base held.new.items) }
+    ensures moment { HasMoment piece.entry.moment result }
+    ensures progress { work (R.owed reader.new) result < work (R.owed reader.old) (Some piece.entry) }
 {
-    match (&mut reader.carrier, &mut writer.carrier) {
-        (ReaderOf::Din(reader), WriterOf::Din(writer)) => finish_pair(reader, writer, out),
-        (ReaderOf::Din(reader), WriterOf::Usb(writer)) => finish_pair(reader, writer, out),
-        (ReaderOf::Usb(reader), WriterOf::Din(writer)) => finish_pair(reader, writer, out),
-        (ReaderOf::Usb(reader), WriterOf::Usb(writer)) => finish_pair(reader, writer, out),
-    }
-}
-
-/// Reads a piece to its end and prints all that it gives: the notes alone, or the marks too where they are traced. Whether a
-/// note was among it is kept in `noted`. After `Refused` a front of it was handed on.
-pub fn list_hop<K: Out>(
-    reader: &mut PortReader,
-    traced: bool,
-    noted: &mut bool,
-    piece: &[u8],
-    out: &mut K,
-) -> Result<(), Refused>
-    requires early { reader_offset reader.old + length piece.now < 2 ^ 63 }
-    requires ready { K.ready out.old }
-    requires stands { (bytes : List ℕ) × ListStands (reader_spec reader.old) (ReaderStands reader.old) noted.old bytes }
-    ensures reads { reader_spec reader.new ≡ reader_spec reader.old }
-    ensures offset { OnOk result (reader_offset reader.new ≡ reader_offset reader.old + length piece.now) }
-    ensures ready { K.ready out.new }
-    ensures cause { HasCause (K.refusals out.old) (K.refusals out.new) result }
-    ensures sound { OnOk result (K.refusals out.new ≡ K.refusals out.old) }
-    ensures fed { OnOk result (ListFed (reader_spec reader.old) traced (ReaderStands reader.old) (ReaderStands reader.new) noted.old noted.new piece.now (λ given. K.took out.old given out.new)) }
-    ensures halted { OnErr result (ListHalted (reader_spec reader.old) traced (ReaderStands reader.old) noted.old piece.now (λ given. K.took out.old given out.new)) }
-{
-    match &mut reader.carrier {
-        ReaderOf::Din(reader) => list_pair(reader, traced, noted, piece, out),
-        ReaderOf::Usb(reader) => list_pair(reader, traced, noted, piece, out),
-    }
-}
-
-/// Prints what only the end makes known. After `Refused` a front of it was handed on.
-pub fn list_end<K: Out>(
-    reader: &mut PortReader,
-    traced: bool,
-    noted: &mut bool,
-    out: &mut K,
-) -> Result<(), Refused>
-    requires ready { K.ready out.old }
-    requires stands { (bytes : List ℕ) × ListStands (reader_spec reader.old) (ReaderStands reader.old) noted.old bytes }
-    ensures reads { reader_spec reader.new ≡ reader_spec reader.old }
-    ensures ready { K.ready out.new }
-    ensures cause { HasCause (K.refusals out.old) (K.refusals out.new) result }
-    ensures sound { OnOk result (K.refusals out.new ≡ K.refusals out.old) }
-    ensures ended { OnOk result (ListEnded (reader_spec reader.old) traced (ReaderStands reader.old) noted.old noted.new (λ given. K.took out.old given out.new)) }
-    ensures halted { OnErr result (ListEndHalted (reader_spec reader.old) traced (ReaderStands reader.old) noted.old (λ given. K.took out.old given out.new)) }
-{
-    match &mut reader.carrier {
-        ReaderOf::Din(reader) => list_last(reader, traced, noted, out),
-        ReaderOf::Usb(reader) => list_last(reader, traced, noted, out),
+    match &mut writer.carrier {
+        WriterOf::Din(writer) => fill_pair(reader, writer, apart, piece, held),
+        WriterOf::Usb(writer) => fill_pair(reader, writer, apart, piece, held),
     }
 }

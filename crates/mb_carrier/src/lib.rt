@@ -3,18 +3,22 @@
 
 mod din;
 mod events;
-mod feed;
+mod fill;
 mod hop;
 pub mod laws;
 mod listing;
+mod piece;
 mod reader;
 mod spec;
 mod step;
 mod usb;
 mod writer;
 
-pub use events::{EventReader, EventWriter, ROOM};
-pub use hop::{feed_hop, finish_hop, list_end, list_hop};
+pub(crate) use events::LONGEST_RUN;
+pub use events::{EventReader, EventWriter};
+pub use hop::fill_hop;
+pub use listing::{list_end, list_piece};
+pub use piece::Piece;
 pub use reader::PortReader;
 pub use spec::Spec;
 pub use step::PortStep;

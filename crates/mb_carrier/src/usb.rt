@@ -2,9 +2,9 @@
 
 ghost use Rattle.std.specs.Prelude.{ℕ, List, take};
 
-use crate::{EventReader, EventWriter};
+use crate::{EventReader, EventWriter, LONGEST_RUN};
 use mb_message::{Buf, Ev, Seen};
-use mb_usb::{CableReader, UsbWriter};
+use mb_usb::{CableReader, PUT_ROOM, UsbWriter};
 
 impl EventReader for CableReader {
     ghost use Rattle.std.specs.Prelude.{not, ◌==◌};
@@ -13,6 +13,7 @@ impl EventReader for CableReader {
     ghost use Rattle.mb_usb.specs.Under.{left_of, taken_of};
     ghost use Rattle.mb_usb.specs.Cables.{CableStands};
     ghost use Rattle.mb_carrier.specs.declared.spec.Spec.TheVariants.{Usb};
+    ghost use Rattle.mb_din.specs.Reader.{StatusNext};
     ghost use Rattle.mb_carrier.specs.UsbLaws.{known-stays, marks-end, marks-suit};
 
     ghost spec = { λ r. Usb r.cable };
@@ -20,6 +21,10 @@ impl EventReader for CableReader {
     ghost offset = { λ r. r.packet.offset };
 
     ghost owed = { λ r. state.owed_one r };
+
+    ghost moment = { λ r moment_set. moment_set };
+
+    ghost broken_next = { λ r input. StatusNext input };
 
     ghost beside = { λ r input. take (left_of r.packet.under) input };
 
@@ -39,6 +44,11 @@ impl EventReader for CableReader {
         CableReader::finish(self)
     }
 
+    #[inline(always)]
+    fn moment(&self, moment_set: u64) -> u64 {
+        moment_set
+    }
+
     ghost stays = { λ r bytes more. known-stays r.cable bytes more };
 
     ghost ends = { λ r bytes. marks-end r.cable bytes };
@@ -47,19 +57,35 @@ impl EventReader for CableReader {
 }
 
 impl EventWriter for UsbWriter {
+    ghost use Rattle.mb_stream.specs.Puts.{signs_in};
     ghost use Rattle.mb_usb.specs.Writer.{Writer, Stands};
     ghost use Rattle.mb_carrier.specs.declared.spec.Spec.TheVariants.{Usb};
-    ghost use Rattle.mb_carrier.specs.UsbLaws.{live-stays, live-closes};
 
     ghost spec = { λ w. Usb w.cable };
 
     ghost in_sysex = { λ w. w.in_sysex };
 
-    ghost stands = { λ w marks. Stands w marks };
+    ghost stands = { λ w puts. Stands w (signs_in puts) };
 
     #[inline(always)]
-    fn put(&mut self, ev: Ev<'_>, out: &mut Buf) {
+    fn room(&self) -> usize {
+        PUT_ROOM
+    }
+
+    #[inline(always)]
+    fn longest(&self) -> usize {
+        LONGEST_RUN
+    }
+
+    #[inline(always)]
+    fn put(&mut self, moment: u64, ev: Ev<'_>, out: &mut Buf) {
+        let _ = moment;
         UsbWriter::put(self, ev, out);
+    }
+
+    #[inline(always)]
+    fn flush(&mut self, out: &mut Buf) {
+        let _ = out;
     }
 
     #[inline(always)]
@@ -67,11 +93,5 @@ impl EventWriter for UsbWriter {
         UsbWriter::finish(self, out);
     }
 
-    ghost each_suits = { λ w marks stands. stands.each_suits };
-
-    ghost stays = { λ w marks more suits. live-stays w.cable marks more suits };
-
-    ghost closes = { λ w marks suits. live-closes w.cable marks suits };
-
-    ghost open_now = { λ w marks stands. stands.open_now };
+    ghost open_now = { λ w puts stands. stands.open_now };
 }

@@ -1,14 +1,15 @@
 //! A writer of whatever port a spec names.
 
-ghost use Rattle.std.specs.Prelude.{◌≡◌, ℕ, ◌+◌, ◌≤◌, true, false, List, [], ◌++◌, IsOk, IfOk};
+ghost use Rattle.std.specs.Prelude.{◌≡◌, ℕ, ◌+◌, ◌<◌, ◌≤◌, true, false, List, [], ◌∷◌, ◌++◌, IsOk, IfOk};
 ghost use Rattle.arrayvec.specs.ArrayVec.{array_vec_len};
-ghost use Rattle.mb_message.specs.Signs.{Sign, suits_event, IsShortRun, open_behind, signs_of_event};
+ghost use Rattle.mb_message.specs.Signs.{suits_event, IsRunOf, open_behind, signs_of_event};
 ghost use Rattle.mb_stream.specs.Appended.{Appended};
-ghost use Rattle.mb_carrier.specs.Carrier.{live, written};
+ghost use Rattle.mb_stream.specs.Puts.{Put, Flush, puts_at};
+ghost use Rattle.mb_carrier.specs.Carrier.{live, written, room_of, longest_of};
 ghost use Rattle.mb_carrier.specs.Port.{writer_spec, writer_in_sysex, WriterStands};
 ghost use Rattle.mb_carrier.specs.Word.{IsSpec};
 
-use crate::{ROOM, Spec};
+use crate::{EventWriter, Spec};
 use mb_din::DinWriter;
 use mb_message::{Buf, Ev, Memory};
 use mb_usb::UsbWriter;
@@ -55,52 +56,83 @@ impl PortWriter {
 
     /// How many bytes the longest run has that `put` takes.
     pub fn longest(&self) -> usize
-        ensures { result ≡ 16 }
+        ensures longest { result ≡ longest_of (writer_spec self.now) }
+        ensures some { 0 < result }
     {
-        16
-    }
-
-    /// Appends what an event is written as, or as much of it as is known now. A run has at most `longest` bytes. The
-    /// moment, in milliseconds, isn't written on these carriers.
-    pub fn put(&mut self, moment: u64, ev: Ev<'_>, out: &mut Buf)
-        requires room { array_vec_len out.old + ROOM ≤ 1024 }
-        requires suits { suits_event (writer_in_sysex self.old) ev ≡ true }
-        requires run { IsShortRun ev }
-        ensures spec { writer_spec self.new ≡ writer_spec self.old }
-        ensures in_sysex { writer_in_sysex self.new ≡ open_behind (writer_in_sysex self.old) ev.entry }
-        ensures len { array_vec_len out.new ≤ array_vec_len out.old + ROOM }
-        ensures stands { (marks : List Sign) → WriterStands self.old marks → WriterStands self.new (marks ++ signs_of_event ev.entry) }
-        ensures written { (marks : List Sign) → WriterStands self.old marks →
-            Appended out.old.items out.new.items (live (writer_spec self.old) marks) (live (writer_spec self.old) (marks ++ signs_of_event ev.entry)) }
-    {
-        let _ = moment;
-        match &mut self.carrier {
-            WriterOf::Din(writer) => writer.put(ev, out),
-            WriterOf::Usb(writer) => writer.put(ev, out),
+        match &self.carrier {
+            WriterOf::Din(writer) => EventWriter::longest(writer),
+            WriterOf::Usb(writer) => EventWriter::longest(writer),
         }
     }
 
-    /// Ends the packet under way. On these carriers there is none, so nothing is written.
-    pub fn flush(&mut self, out: &mut Buf)
-        ensures same { self.new ≡ self.old }
-        ensures written { out.new.items ≡ out.old.items }
+    /// The free bytes that `put`, `flush` and `finish` ask for.
+    pub fn room(&self) -> usize
+        ensures room { result ≡ room_of (writer_spec self.now) }
+        ensures fits { result ≤ 1024 }
     {
-        let _ = out;
+        match &self.carrier {
+            WriterOf::Din(writer) => EventWriter::room(writer),
+            WriterOf::Usb(writer) => EventWriter::room(writer),
+        }
+    }
+
+    /// Appends what an event is written as, or as much of it as is known now. A run has at most `longest` bytes. The moment, in
+    /// milliseconds, is no earlier than the last; a carrier without a clock doesn't write it.
+    pub fn put(&mut self, moment: u64, ev: Ev<'_>, out: &mut Buf)
+        requires room { array_vec_len out.old + room_of (writer_spec self.old) ≤ 1024 }
+        requires suits { suits_event (writer_in_sysex self.old) ev ≡ true }
+        requires run { IsRunOf (longest_of (writer_spec self.old)) ev }
+        ensures spec { writer_spec self.new ≡ writer_spec self.old }
+        ensures in_sysex { writer_in_sysex self.new ≡ open_behind (writer_in_sysex self.old) ev.entry }
+        ensures len { array_vec_len out.new ≤ array_vec_len out.old + room_of (writer_spec self.old) }
+        ensures stands { (puts : List Put) → WriterStands self.old puts → WriterStands self.new (puts ++ puts_at moment (signs_of_event ev.entry)) }
+        ensures written { (puts : List Put) → WriterStands self.old puts → Appended out.old.items out.new.items
+            (live (writer_spec self.old) puts) (live (writer_spec self.old) (puts ++ puts_at moment (signs_of_event ev.entry))) }
+    {
+        match &mut self.carrier {
+            WriterOf::Din(writer) => EventWriter::put(writer, moment, ev, out),
+            WriterOf::Usb(writer) => EventWriter::put(writer, moment, ev, out),
+        }
+    }
+
+    /// Ends the packet under way, if there is one.
+    pub fn flush(&mut self, out: &mut Buf)
+        requires room { array_vec_len out.old + room_of (writer_spec self.old) ≤ 1024 }
+        ensures spec { writer_spec self.new ≡ writer_spec self.old }
+        ensures in_sysex { writer_in_sysex self.new ≡ writer_in_sysex self.old }
+        ensures len { array_vec_len out.new ≤ array_vec_len out.old + room_of (writer_spec self.old) }
+        ensures stands { (puts : List Put) → WriterStands self.old puts → WriterStands self.new (puts ++ Flush ∷ []) }
+        ensures written { (puts : List Put) → WriterStands self.old puts → Appended out.old.items out.new.items
+            (live (writer_spec self.old) puts) (live (writer_spec self.old) (puts ++ Flush ∷ [])) }
+    {
+        match &mut self.carrier {
+            WriterOf::Din(writer) => EventWriter::flush(writer, out),
+            WriterOf::Usb(writer) => EventWriter::flush(writer, out),
+        }
     }
 
     /// Appends what the end of the list of marks adds. Afterwards the writer is as new.
     pub fn finish(&mut self, out: &mut Buf)
-        requires room { array_vec_len out.old + ROOM ≤ 1024 }
+        requires room { array_vec_len out.old + room_of (writer_spec self.old) ≤ 1024 }
         ensures spec { writer_spec self.new ≡ writer_spec self.old }
         ensures in_sysex { writer_in_sysex self.new ≡ false }
-        ensures len { array_vec_len out.new ≤ array_vec_len out.old + ROOM }
-        ensures stands { (marks : List Sign) → WriterStands self.old marks → WriterStands self.new [] }
-        ensures written { (marks : List Sign) → WriterStands self.old marks →
-            Appended out.old.items out.new.items (live (writer_spec self.old) marks) (written (writer_spec self.old) marks) }
+        ensures len { array_vec_len out.new ≤ array_vec_len out.old + room_of (writer_spec self.old) }
+        ensures stands { (puts : List Put) → WriterStands self.old puts → WriterStands self.new [] }
+        ensures written { (puts : List Put) → WriterStands self.old puts → Appended out.old.items out.new.items
+            (live (writer_spec self.old) puts) (written (writer_spec self.old) puts) }
     {
         match &mut self.carrier {
-            WriterOf::Din(writer) => writer.finish(out),
-            WriterOf::Usb(writer) => writer.finish(out),
+            WriterOf::Din(writer) => EventWriter::finish(writer, out),
+            WriterOf::Usb(writer) => EventWriter::finish(writer, out),
+        }
+    }
+}
+
+impl Default for PortWriter {
+    /// A writer of a byte line, in an unused place of a row.
+    fn default() -> PortWriter {
+        PortWriter {
+            carrier: WriterOf::Din(DinWriter::new(true)),
         }
     }
 }

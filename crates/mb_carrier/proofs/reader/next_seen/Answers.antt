@@ -3,10 +3,13 @@ use Rattle.mb_carrier.proofs.PortLemmas.{goes-by, told_all-by}
 use Rattle.mb_carrier.proofs.reader.next_seen.Goals as goal
 
 pub returns-in-Din-clause-goes : goal.returns-in-Din-clause-goes
-returns-in-Din-clause-goes c = goes-by _ (reader.Din c.in-Din.reader) _ _ _ _ c.in-Din.is c.next.ensures.goes
+returns-in-Din-clause-goes c = goes-by _ (reader.Din c.in-Din.reader) _ _ _ _ _ c.in-Din.is c.next.ensures.goes
 
 pub returns-in-Din-clause-all_told : goal.returns-in-Din-clause-all_told
 returns-in-Din-clause-all_told c = told_all-by _ _ (reader.Din c.in-Din.reader) _ c.in-Din.is c.next.ensures.all_told
+
+pub returns-in-Usb-clause-goes : goal.returns-in-Usb-clause-goes
+returns-in-Usb-clause-goes c = goes-by _ (reader.Usb c.in-Usb.reader) _ _ _ _ _ c.in-Usb.is c.next-in-Usb.ensures.goes
 
 pub returns-in-Usb-clause-all_told : goal.returns-in-Usb-clause-all_told
 returns-in-Usb-clause-all_told c = told_all-by _ _ (reader.Usb c.in-Usb.reader) _ c.in-Usb.is c.next-in-Usb.ensures.all_told

@@ -1,0 +1,119 @@
+-- Any chain of carriers, by the record of their laws alone.
+use Rattle.std.proofs.Common.{◌≡◌, ℕ, ◌+◌, ◌*◌, ◌≤◌, true, List, [], ◌∷◌, length, refl, sym, ◌∙◌, ap, subst, arith}
+use Rattle.mb_stream.specs.Puts.{Put, signs_in}
+use Rattle.mb_stream.specs.Denotation.{denotation}
+use Rattle.mb_stream.specs.Standing.{suited, AreValid}
+use Rattle.mb_carrier.specs.Carrier.{marks_of, puts_of, end_moment, notes_of, den, whole, written}
+use Rattle.mb_carrier.specs.Conversion.{moments_of, none_set, carried, through}
+use Rattle.mb_carrier.specs.Laws.{CarrierLaws}
+use Rattle.mb_carrier.specs.declared.spec.Spec.{Spec}
+use Rattle.mb_carrier.proofs.PutLemmas.{puts_of-in}
+use Rattle.mb_carrier.specs.DinLaws as din_laws
+use Rattle.mb_carrier.specs.UsbLaws as usb_laws
+use Rattle.mb_carrier.specs.declared.spec.Spec.TheVariants.{Din, Usb}
+use Rattle.mb_din.proofs.DinMarks as din
+use Rattle.mb_din.proofs.WrittenMarks as din_written
+use Rattle.mb_usb.proofs.CarrierLaws as usb
+
+pub laws : (s : Spec) → CarrierLaws s
+laws Din =
+    record {
+      suits = din.suits;
+      valid = din.valid;
+      few = din.two_a_byte;
+      means = λ puts. din_written.means (signs_in puts);
+      one_more = λ puts. din_written.one_more (signs_in puts);
+      size = λ puts suits. omega (arith, din_written.size (signs_in puts));
+      clean = λ puts. din_written.clean (signs_in puts);
+      whole_packets = λ puts suits. refl;
+      ends = din_laws.marks-end;
+    }
+laws (Usb cable) =
+    record {
+      suits = usb.suits cable;
+      valid = usb.valid cable;
+      few = usb.few cable;
+      means = λ puts. usb.means cable (signs_in puts);
+      one_more = λ puts. usb.one_more cable (signs_in puts);
+      size = λ puts suits. omega (arith, usb.size cable (signs_in puts) suits);
+      clean = λ puts. usb.clean cable (signs_in puts);
+      whole_packets = λ puts. usb.whole cable (signs_in puts);
+      ends = usb_laws.marks-end cable;
+    }
+
+-- what a hop hands on has the marks that it read
+pub hop-in : (s : Spec) (moments : ℕ → ℕ) (bytes : List ℕ) → signs_in (puts_of s moments bytes) ≡ marks_of s bytes
+hop-in s moments bytes = puts_of-in s moments bytes ((laws s).ends bytes)
+
+pub hop-suits : (s : Spec) (moments : ℕ → ℕ) (bytes : List ℕ) → suited (signs_in (puts_of s moments bytes)) ≡ true
+hop-suits s moments bytes = ap suited (hop-in s moments bytes) ∙ (laws s).suits bytes
+
+pub hop-valid : (s : Spec) (moments : ℕ → ℕ) (bytes : List ℕ) → AreValid (signs_in (puts_of s moments bytes))
+hop-valid s moments bytes = subst AreValid (sym (hop-in s moments bytes)) ((laws s).valid bytes)
+
+carried-suits : (specs : List Spec) (end : ℕ) (puts : List Put) → suited (signs_in puts) ≡ true → suited (signs_in (carried specs end puts)) ≡ true
+carried-suits [] end puts suits = suits
+carried-suits (s ∷ specs) end puts suits =
+    let m : ℕ → ℕ = moments_of s end puts in
+    carried-suits specs (end_moment s m (written s puts)) (puts_of s m (written s puts)) (hop-suits s m (written s puts))
+
+carried-valid : (specs : List Spec) (end : ℕ) (puts : List Put) → AreValid (signs_in puts) → AreValid (signs_in (carried specs end puts))
+carried-valid [] end puts valid = valid
+carried-valid (s ∷ specs) end puts valid =
+    let m : ℕ → ℕ = moments_of s end puts in
+    carried-valid specs (end_moment s m (written s puts)) (puts_of s m (written s puts)) (hop-valid s m (written s puts))
+
+carried-means : (specs : List Spec) (end : ℕ) (puts : List Put) → suited (signs_in puts) ≡ true → AreValid (signs_in puts) →
+    denotation (signs_in (carried specs end puts)) ≡ denotation (signs_in puts)
+carried-means [] end puts suits valid = refl
+carried-means (s ∷ specs) end puts suits valid =
+    let m : ℕ → ℕ = moments_of s end puts in
+    carried-means specs (end_moment s m (written s puts)) (puts_of s m (written s puts)) (hop-suits s m (written s puts)) (hop-valid s m (written s puts))
+    ∙ (ap denotation (hop-in s m (written s puts)) ∙ (laws s).means puts suits valid)
+
+carried-length : (specs : List Spec) (end : ℕ) (puts : List Put) → suited (signs_in puts) ≡ true → AreValid (signs_in puts) →
+    length (signs_in (carried specs end puts)) ≤ length (signs_in puts) + length specs
+carried-length [] end puts suits valid = omega arith
+carried-length (s ∷ specs) end puts suits valid =
+    let m : ℕ → ℕ = moments_of s end puts in
+    omega (arith, carried-length specs (end_moment s m (written s puts)) (puts_of s m (written s puts)) (hop-suits s m (written s puts)) (hop-valid s m (written s puts)),
+    ap length (hop-in s m (written s puts)), (laws s).one_more puts suits valid)
+
+abbrev read_first : Spec → List ℕ → List Put
+read_first first bytes = puts_of first none_set bytes
+
+abbrev first_end : Spec → List ℕ → ℕ
+first_end first bytes = end_moment first none_set bytes
+
+-- what is written denotes on its port what the bytes read denote on theirs
+pub through-means : (first : Spec) (between : List Spec) (last : Spec) (bytes : List ℕ) → den last (through first between last bytes) ≡ den first bytes
+through-means first between last bytes =
+    let suits = hop-suits first none_set bytes in
+    let valid = hop-valid first none_set bytes in
+    let end = first_end first bytes in
+    (laws last).means (carried between end (read_first first bytes)) (carried-suits between end (read_first first bytes) suits) (carried-valid between end (read_first first bytes) valid)
+    ∙ (carried-means between end (read_first first bytes) suits valid ∙ ap denotation (hop-in first none_set bytes))
+
+pub through-clean : (first : Spec) (between : List Spec) (last : Spec) (bytes : List ℕ) → notes_of last (through first between last bytes) ≡ []
+through-clean first between last bytes =
+    (laws last).clean (carried between (first_end first bytes) (read_first first bytes))
+    (carried-suits between (first_end first bytes) (read_first first bytes) (hop-suits first none_set bytes))
+    (carried-valid between (first_end first bytes) (read_first first bytes) (hop-valid first none_set bytes))
+
+pub through-whole : (first : Spec) (between : List Spec) (last : Spec) (bytes : List ℕ) → whole last (through first between last bytes) ≡ true
+through-whole first between last bytes =
+    (laws last).whole_packets (carried between (first_end first bytes) (read_first first bytes))
+    (carried-suits between (first_end first bytes) (read_first first bytes) (hop-suits first none_set bytes))
+
+pub through-size : (first : Spec) (between : List Spec) (last : Spec) (bytes : List ℕ) →
+    length (through first between last bytes) ≤ 1024 * (length (marks_of first bytes) + length between) + 1024
+through-size first between last bytes =
+    let suits = hop-suits first none_set bytes in
+    let valid = hop-valid first none_set bytes in
+    let end = first_end first bytes in
+    omega (arith, (laws last).size (carried between end (read_first first bytes)) (carried-suits between end (read_first first bytes) suits),
+    carried-length between end (read_first first bytes) suits valid, ap length (hop-in first none_set bytes))
+
+pub through-bounded : (first : Spec) (between : List Spec) (last : Spec) (bytes : List ℕ) →
+    length (through first between last bytes) ≤ 1024 * (2 * length bytes + length between) + 1024
+through-bounded first between last bytes = omega (arith, through-size first between last bytes, (laws first).few bytes)

@@ -1,0 +1,22 @@
+-- By its carrier: what is known of a spec's bytes stays known, the marks of a reading are those that are known and those of its
+-- end, and they suit.
+use Rattle.std.specs.Prelude.{◌≡◌, ℕ, true, List, ◌++◌}
+use Rattle.mb_stream.specs.Standing.{suited}
+use Rattle.mb_outside.specs.Taking.{IsFront}
+use Rattle.mb_carrier.specs.Carrier.{known, end_told, told_signs, marks_of, marks_so_far}
+use Rattle.mb_carrier.specs.DinLaws as din
+use Rattle.mb_carrier.specs.UsbLaws as usb
+use Rattle.mb_carrier.specs.declared.spec.Spec.{Spec}
+use Rattle.mb_carrier.specs.declared.spec.Spec.TheVariants.{Din, Usb}
+
+pub known-stays : (s : Spec) (bytes more : List ℕ) → IsFront (known s bytes) (known s (bytes ++ more))
+known-stays Din = din.known-stays
+known-stays (Usb cable) = usb.known-stays cable
+
+pub marks-end : (s : Spec) (bytes : List ℕ) → marks_of s bytes ≡ marks_so_far s bytes ++ told_signs (end_told s bytes)
+marks-end Din = din.marks-end
+marks-end (Usb cable) = usb.marks-end cable
+
+pub marks-suit : (s : Spec) (bytes : List ℕ) → suited (marks_of s bytes) ≡ true
+marks-suit Din = din.marks-suit
+marks-suit (Usb cable) = usb.marks-suit cable
