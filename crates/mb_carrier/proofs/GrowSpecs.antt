@@ -50,6 +50,7 @@ grows Din = record {
   known_stays = din.known-stays;
   same = λ m n bytes f. din-same m n (length bytes) (so_far (din_payload bytes)) f (din-place bytes);
   nothing = refl;
+  nothing_known = refl;
 }
 grows (Usb cable) = record {
   stays = usb_laws.live-stays cable;
@@ -57,4 +58,5 @@ grows (Usb cable) = record {
   known_stays = usb_laws.known-stays cable;
   same = λ m n bytes f. usb-same cable m n (length bytes) (cable_so_far cable bytes) f (usb-place cable bytes);
   nothing = refl;
+  nothing_known = refl;
 }

@@ -34,6 +34,10 @@ puts_known-at s moments m (k ∷ ks) e =
     ap₂ (λ xs ys. xs ++ ys) (one_at m (moment_of s moments k) k.told e.0) (puts_known-at s moments m ks e.1)
     ∙ sym (puts_at-append m (sign_in k.told) (told_signs (map (λ k. k.told) ks)))
 
+pub known_signs-append : (xs ys : List Known) → known_signs (xs ++ ys) ≡ known_signs xs ++ known_signs ys
+known_signs-append [] ys = refl
+known_signs-append (x ∷ xs) ys = ap (λ ms. sign_in x.told ++ ms) (known_signs-append xs ys) ∙ sym (append_assoc (sign_in x.told) (known_signs xs) (known_signs ys))
+
 sign_in-put : (n : ℕ) (t : Told) → signs_in (put_in n t) ≡ sign_in t
 sign_in-put n (Marks s) = refl
 sign_in-put n (Notes at kind) = refl

@@ -1,5 +1,7 @@
 -- Bytes of one moment on their way through a row of hops.
-use Rattle.std.proofs.Common.{◌≡◌, ℕ, ◌+◌, ◌<◌, ◌≤◌, ◌^◌, Bool, true, Option, Some, None, List, [], ◌∷◌, ◌++◌, length, map, refl, sym, ◌∙◌, ap, subst, append_assoc, arith, length-append}
+use Rattle.std.specs.Prelude.{not, ◌==◌}
+use Rattle.std.proofs.lemmas.Bool.Decides.{nat_tests}
+use Rattle.std.proofs.Common.{◌≡◌, ℕ, ◌+◌, ◌<◌, ◌≤◌, ◌^◌, Bool, true, false, Option, Some, None, List, [], ◌∷◌, ◌++◌, length, map, refl, sym, ◌∙◌, ap, subst, append_assoc, arith, length-append}
 use Rattle.std.proofs.lemmas.List.{append-nil}
 use Rattle.mb_message.specs.Signs.{Sign, signs_of_event}
 use Rattle.mb_stream.specs.Puts.{Put, signs_in, puts_at}
@@ -348,9 +350,9 @@ none-fed links was now moment piece took none empty t =
     (subst (λ (hs : List Hop). RowFed [] (RowStands was) (RowStands hs) moment piece took) (sym empty)
     (record { given = piece; took_it = t; stands = λ moments bytes row have. tt; beyond = λ moments bytes row have. refl }))
 
-pub none-halted : (links : List Link) (was : List Hop) (moment : ℕ) (piece : List ℕ) (took : List ℕ → Type 0) → links ≡ [] → ((front : List ℕ) × IsFront front piece × took front) → RowHalted links (RowStands was) moment piece took
+pub none-halted : (links : List Link) (was : (ℕ → ℕ) → List ℕ → Type 0) (moment : ℕ) (piece : List ℕ) (took : List ℕ → Type 0) → links ≡ [] → ((front : List ℕ) × IsFront front piece × took front) → RowHalted links was moment piece took
 none-halted links was moment piece took none f =
-    subst (λ (ls : List Link). RowHalted ls (RowStands was) moment piece took) (sym none)
+    subst (λ (ls : List Link). RowHalted ls was moment piece took) (sym none)
     (record { given = f.0; took_it = f.2; front = λ moments bytes row have. ((f.1).0, ap (λ xs. bytes ++ xs) (f.1).1 ∙ sym (append_assoc bytes f.0 (f.1).0)) })
 
 -- a row by its first hop
@@ -370,3 +372,10 @@ first-halted hops h behind moment piece took same f = subst (λ (hs : List Hop).
 pub no_links : (hops : List Hop) → length hops ≡ 0 → map link_of hops ≡ []
 no_links [] e = refl
 no_links (h ∷ hs) e = absurd (omega (arith, e))
+
+-- moments are kept apart where hops are behind
+pub apart-by : (hops : List Hop) (empty : Bool) → empty ≡ (length hops == 0) → IsApart (map link_of hops) (not empty)
+apart-by [] empty e = tt
+apart-by (h ∷ hs) empty e =
+    let some : (length (h ∷ hs) == 0) ≡ false = grind (arith, nat_tests) in
+    ap not (e ∙ some)

@@ -70,7 +70,7 @@ early-again (l ∷ ls) m n bytes agree early = (
 -- What was written stays, over any row, the bytes having the same moments as far as they go.
 
 -- one hop: what it hands on, and the moments of that
-record More (l : Link) (m : ℕ → ℕ) (xs ys : List ℕ) : Type 0 where
+pub record More (l : Link) (m : ℕ → ℕ) (xs ys : List ℕ) : Type 0 where
   pub front : IsFront (hands_on l m xs) (hands_on l m ys)
   pub agree : Agree (moments_on l m xs) (moments_on l m ys) (hands_on l m xs)
 
@@ -112,7 +112,7 @@ early-short (l ∷ ls) m bytes early = early.0
 -- what the end adds stands behind it
 
 -- one hop: all that it writes, and the moments of that
-record Closes (l : Link) (m : ℕ → ℕ) (bytes : List ℕ) : Type 0 where
+pub record Closes (l : Link) (m : ℕ → ℕ) (bytes : List ℕ) : Type 0 where
   pub front : IsFront (hands_on l m bytes) (writes_all l m bytes)
   pub agree : Agree (moments_on l m bytes) (moments_all l m bytes) (hands_on l m bytes)
 

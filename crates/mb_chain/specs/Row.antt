@@ -13,7 +13,8 @@
 --   LastPut ..                      the marks of a hop's end were put, all at one moment
 use Rattle.std.specs.Prelude.{◌≡◌, ℕ, ◌+◌, ◌≤◌, ◌^◌, Bool, true, List, [], ◌∷◌, ◌++◌, length}
 use Rattle.mb_stream.specs.Told.{Known}
-use Rattle.mb_stream.specs.Puts.{Put}
+use Rattle.mb_message.specs.Signs.{Sign}
+use Rattle.mb_stream.specs.Puts.{Put, puts_at}
 use Rattle.mb_outside.specs.Taking.{IsFront}
 use Rattle.mb_carrier.specs.Carrier.{puts_so_far, puts_of, last_byte_moment, end_moment, live, written}
 use Rattle.mb_carrier.specs.Conversion.{moments_of}
@@ -126,5 +127,6 @@ pub record RowEndHalted (links : List Link) (was : (ℕ → ℕ) → List ℕ �
 pub record LastPut (s t : Spec) (reader : List ℕ → List Known → Type 0) (writer writer_now : List Put → Type 0) (moment at : ℕ)
     (held : List ℕ) (moments : ℕ → ℕ) (bytes : List ℕ) : Type 0 where
   pub moment_is : end_moment s moments bytes ≡ at
+  pub given : (signs : List Sign) × (puts_of s moments bytes ≡ puts_so_far s moments bytes ++ puts_at at signs)
   pub stands : writer_now (puts_of s moments bytes)
   pub wrote : live t (puts_of s moments bytes) ≡ live t (puts_so_far s moments bytes) ++ held

@@ -53,10 +53,12 @@ fn put_last(reader: &mut PortReader, writer: &mut PortWriter, moment: u64, held:
         last_byte_moment moments (length bytes) ≡ moment → LastPut (reader_spec reader.old) (writer_spec writer.old) (ReaderStands reader.old)
         (WriterStands writer.old) (WriterStands writer.new) moment result held.new.items moments bytes }
 {
-    let last = EventReader::finish(reader);
-    let at = EventReader::moment(reader, moment);
-    if let Some(Seen::Ev(ev)) = last {
-        writer.put(at, ev, held);
+    match EventReader::finish(reader) {
+        Some(Seen::Ev(ev)) => {
+            let at = EventReader::moment(reader, moment);
+            writer.put(at, ev, held);
+            at
+        }
+        _ => EventReader::moment(reader, moment),
     }
-    at
 }
