@@ -10,9 +10,10 @@ use Rattle.mb_stream.specs.Appended.{Appended}
 use Rattle.mb_stream.specs.Puts.{Put, signs_in, puts_at}
 use Rattle.mb_stream.proofs.PutsLemmas.{signs_in-more}
 use Rattle.mb_stream.proofs.StandingLemmas.{both}
-use Rattle.mb_din.specs.Turn.{told_by}
-use Rattle.mb_outside.specs.Taking.{IsFront}
-use Rattle.mb_carrier.specs.Carrier.{known, told_signs, puts_known, puts_so_far, live}
+use Rattle.mb_stream.specs.ReaderLaw.{told_by}
+use Rattle.mb_message.specs.Front.{IsFront}
+use Rattle.mb_stream.specs.Reading.{told_signs}
+use Rattle.mb_carrier.specs.Carrier.{known, puts_known, puts_so_far, live}
 use Rattle.mb_carrier.specs.Hop.{Puts, HopStands, HaveMoment, MayCome, seen_signs}
 use Rattle.mb_carrier.specs.Fill.{PutSome, Flows, Through, AllAt, More}
 use Rattle.mb_carrier.specs.declared.spec.Spec.{Spec}
@@ -165,7 +166,8 @@ flows-next : (s other t : Spec) (moments : ℕ → ℕ) (moment : ℕ) (was now 
     other ≡ s → Goes other was now time rest left answer → Flows s t moments moment was writer bytes rest [] puts base held →
     Flows s t moments moment now writer bytes left (puts_at (time moment) (told_signs answer)) puts base held
 flows-next s other t moments moment was now time writer bytes rest left puts base held answer same goes f =
-    let go = goes-spec s other was now time rest left answer same goes f.taken f.told f.reads (flows-front s s t moments moment was writer bytes rest [] puts base held refl f) in
+    let call = goes-spec s other was now time rest left answer same goes f.taken f.told f.reads (flows-front s s t moments moment was writer bytes rest [] puts base held refl f) in
+    let go = call.goes in
     record {
       taken = f.taken ++ go.taken;
       cut = f.cut ∙ (ap (λ xs. f.taken ++ xs) go.front ∙ sym (append_assoc f.taken go.taken left));
@@ -176,7 +178,7 @@ flows-next s other t moments moment was now time writer bytes rest left puts bas
           puts_known-append s moments f.told go.fresh
           ∙ (ap (λ ps. ps ++ puts_known s moments go.fresh) (f.told_are ∙ append-nil puts)
           ∙ ap (λ ps. puts ++ ps)
-          (puts_known-at s moments (time moment) go.fresh (go.times moments moment f.have) ∙ ap (λ ts. puts_at (time moment) (told_signs ts)) go.answer_is));
+          (puts_known-at s moments (time moment) go.fresh (call.times moments moment f.have) ∙ ap (λ ts. puts_at (time moment) (told_signs ts)) go.answer_is));
       writes = f.writes;
       live_is = f.live_is;
       have = moments-left moments moment f.taken rest go.taken left go.front f.have;
@@ -228,7 +230,7 @@ flows-done s other t moments moment apart at was now time writer bytes rest left
     let f = more.2 in
     let ps : List Put = puts ++ more.0 in
     let front = flows-front s other t moments moment was writer bytes rest [] ps base held same f in
-    let go = goes f.taken f.told f.reads front in
+    let go = (goes f.taken f.told f.reads front).goes in
     let told_is : f.told ≡ known s bytes =
     all_told f.taken f.told f.reads front ∙ (ap (λ (u : Spec). known u (f.taken ++ rest)) same ∙ ap (known s) (sym f.cut)) in
     let fresh : f.told ++ go.fresh ≡ known s bytes = ap (λ ks. f.told ++ ks) (no_told go.fresh go.answer_is) ∙ (append-nil f.told ∙ told_is) in

@@ -1,7 +1,7 @@
 -- Fronts of lists.
 use Rattle.std.proofs.Common.{◌≡◌, List, [], ◌++◌, sym, ◌∙◌, ap, append_assoc}
 use Rattle.std.proofs.lemmas.List.{append-nil}
-use Rattle.mb_outside.specs.Taking.{IsFront}
+use Rattle.mb_message.specs.Front.{IsFront}
 
 pub front-refl : {A : Type 0} (xs : List A) → IsFront xs xs
 front-refl xs = ([], sym (append-nil xs))

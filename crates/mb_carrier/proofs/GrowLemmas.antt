@@ -6,8 +6,9 @@ use Rattle.mb_message.specs.Signs.{Sign}
 use Rattle.mb_stream.specs.Puts.{Put, At, Flush, signs_in, puts_at, last_put}
 use Rattle.mb_stream.specs.Standing.{suited}
 use Rattle.mb_stream.proofs.OrderLemmas.{Each}
-use Rattle.mb_outside.specs.Taking.{IsFront}
-use Rattle.mb_carrier.specs.Carrier.{known, puts_known, puts_so_far, puts_of, end_moment, told_signs, end_told, live, written}
+use Rattle.mb_message.specs.Front.{IsFront}
+use Rattle.mb_stream.specs.Reading.{told_signs}
+use Rattle.mb_carrier.specs.Carrier.{known, puts_known, puts_so_far, puts_of, end_moment, end_told, live, written}
 use Rattle.mb_carrier.specs.Conversion.{repeated, live_moments, moments_of, none_set, carried, through, carried_so_far, live_through}
 use Rattle.mb_carrier.specs.Hop.{HaveMoment}
 use Rattle.mb_carrier.specs.Laws.{CarrierLaws, GrowLaws}

@@ -8,7 +8,8 @@ use Rattle.mb_stream.proofs.AppendedLemmas.{Appended-behind, Appended-nothing}
 use Rattle.mb_stream.specs.Puts.{Put, At, Flush, signs_in, puts_at}
 use Rattle.mb_stream.proofs.OrderLemmas.{Each}
 use Rattle.mb_stream.proofs.PutsLemmas.{signs_in-append, signs_in-at, signs_in-more, signs_in-flush}
-use Rattle.mb_carrier.specs.Carrier.{known, known_signs, end_told, told_signs, marks_of, marks_so_far, moment_of, put_in, puts_known, puts_so_far, puts_of, end_moment}
+use Rattle.mb_stream.specs.Reading.{told_signs}
+use Rattle.mb_carrier.specs.Carrier.{known, known_signs, end_told, marks_of, marks_so_far, moment_of, put_in, puts_known, puts_so_far, puts_of, end_moment}
 use Rattle.mb_carrier.specs.Hop.{IsAtMoment, HaveMoment, Puts}
 use Rattle.mb_carrier.specs.declared.spec.Spec.{Spec}
 

@@ -8,9 +8,10 @@ use Rattle.mb_stream.specs.Told.{Known, Told, Marks}
 use Rattle.mb_stream.specs.Puts.{Put, signs_in, puts_at}
 use Rattle.mb_stream.proofs.PutsLemmas.{signs_in-append}
 use Rattle.mb_stream.proofs.StandingLemmas.{apart, Suited-front, Suited-from_suited, suited-from_Suited}
-use Rattle.mb_din.specs.Turn.{told_by, answer}
-use Rattle.mb_outside.specs.Taking.{IsFront}
-use Rattle.mb_carrier.specs.Carrier.{known, end_told, told_signs, marks_of, marks_so_far, puts_so_far, puts_of, end_moment}
+use Rattle.mb_stream.specs.ReaderLaw.{told_by, answer}
+use Rattle.mb_message.specs.Front.{IsFront}
+use Rattle.mb_stream.specs.Reading.{told_signs}
+use Rattle.mb_carrier.specs.Carrier.{known, end_told, marks_of, marks_so_far, puts_so_far, puts_of, end_moment}
 use Rattle.mb_carrier.specs.Hop.{ReaderGoes, MayCome, seen_signs}
 use Rattle.mb_carrier.specs.declared.spec.Spec.{Spec}
 use Rattle.mb_carrier.proofs.PutLemmas.{so_far-in, puts_of-in}

@@ -20,7 +20,7 @@ use Rattle.mb_stream.specs.Told.{Known, Told, Marks, Notes, at_end}
 use Rattle.mb_stream.specs.Puts.{Put, At, signs_in, puts_at}
 use Rattle.mb_stream.specs.Order.{in_order}
 use Rattle.mb_stream.specs.Reading as stream
-use Rattle.mb_stream.specs.Reading.{Part, Remark, part_of, sign_in, signs_of}
+use Rattle.mb_stream.specs.Reading.{Part, Remark, part_of, signs_of, told_signs}
 use Rattle.mb_stream.specs.Denotation.{Denotation, denotation}
 use Rattle.mb_din.specs.Recording.{din_payload, din_reading}
 use Rattle.mb_din.specs.Written.{din_written}
@@ -39,10 +39,6 @@ known (Usb cable) bytes = in_order (λ k. k) (usb_told cable bytes)
 
 abbrev pub end_told : Spec → List ℕ → List Told
 end_told s bytes = at_end (last_of (payload_of s bytes))
-
--- the marks among what is told
-abbrev pub told_signs : List Told → List Sign
-told_signs ts = flat_map sign_in ts
 
 -- the marks among what is known
 abbrev pub known_signs : List Known → List Sign

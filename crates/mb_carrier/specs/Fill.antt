@@ -13,7 +13,7 @@ use Rattle.std.specs.Prelude.{◌≡◌, ℕ, ◌+◌, ◌*◌, ◌^◌, Bool, t
 use Rattle.mb_message.specs.Signs.{Sign, ByteSign, signs_of_event}
 use Rattle.mb_stream.specs.Told.{Known}
 use Rattle.mb_stream.specs.Puts.{Put, puts_at}
-use Rattle.mb_outside.specs.Taking.{IsFront}
+use Rattle.mb_message.specs.Front.{IsFront}
 use Rattle.mb_carrier.specs.Carrier.{known, puts_known, puts_so_far, live}
 use Rattle.mb_carrier.specs.Hop.{Puts, HopStands, HaveMoment}
 use Rattle.mb_carrier.specs.declared.piece.Piece.{Piece}

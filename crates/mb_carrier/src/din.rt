@@ -12,7 +12,7 @@ impl EventReader for DinReader {
     ghost use Rattle.mb_din.specs.State.{Rests};
     ghost use Rattle.mb_carrier.specs.Line.{LineStands};
     ghost use Rattle.mb_carrier.specs.declared.spec.Spec.TheVariants.{Din};
-    ghost use Rattle.mb_din.specs.Reader.{StatusNext};
+    ghost use Rattle.mb_stream.specs.ReaderLaw.{StatusNext};
     ghost use Rattle.mb_carrier.specs.DinLaws.{known-stays, marks-end, marks-suit};
 
     ghost spec = { λ r. Din };

@@ -7,10 +7,11 @@ ghost use Rattle.mb_stream.specs.Appended.{Appended};
 ghost use Rattle.mb_stream.specs.Puts.{Put, Flush, signs_in, puts_at};
 ghost use Rattle.mb_stream.specs.Standing.{suited, is_open};
 ghost use Rattle.mb_stream.specs.Told.{Known};
-ghost use Rattle.mb_din.specs.Reader.{IsLongest, breaks};
-ghost use Rattle.mb_din.specs.Turn.{answer};
-ghost use Rattle.mb_outside.specs.Taking.{IsFront};
-ghost use Rattle.mb_carrier.specs.Carrier.{known, end_told, told_signs, marks_of, marks_so_far, last_byte_moment, end_moment, room_of, longest_of, live, written};
+ghost use Rattle.mb_stream.specs.ReaderLaw.{IsLongest, breaks};
+ghost use Rattle.mb_stream.specs.ReaderLaw.{answer};
+ghost use Rattle.mb_message.specs.Front.{IsFront};
+ghost use Rattle.mb_stream.specs.Reading.{told_signs};
+ghost use Rattle.mb_carrier.specs.Carrier.{known, end_told, marks_of, marks_so_far, last_byte_moment, end_moment, room_of, longest_of, live, written};
 ghost use Rattle.mb_carrier.specs.Hop.{ReaderGoes};
 ghost use Rattle.mb_carrier.specs.declared.spec.Spec.{Spec};
 
@@ -58,6 +59,7 @@ pub trait EventReader {
         ensures none { IfNone result (input.new.now ≡ []) }
         ensures longest { IfSome result (IsLongest (beside self.new input.new.now)) }
         ensures before { breaks (answer result) ≡ true → broken_next self.new input.new.now × rests self.new }
+        ensures few { length (told_signs (answer result)) ≤ length input.old.now }
         ensures goes { (bytes : List ℕ) (told : List Known) → stands self.old bytes told → IsFront told (known (spec self.old) (bytes ++ input.old.now)) →
             ReaderGoes (spec self.old) (stands self.new) (moment self.new) input.old.now input.new.now (answer result) bytes told }
         ensures all_told { IfNone result ((bytes : List ℕ) (told : List Known) → stands self.old bytes told → IsFront told (known (spec self.old) (bytes ++ input.old.now)) →
@@ -71,6 +73,7 @@ pub trait EventReader {
         ensures rests { rests self.new }
         ensures told { (bytes : List ℕ) → stands self.old bytes (known (spec self.old) bytes) → answer result ≡ end_told (spec self.old) bytes }
         ensures some { OnSome result (answer result ≡ [] → ⊥) }
+        ensures once { OnSome result (rests self.old → ⊥) }
         ensures at { (bytes : List ℕ) → stands self.old bytes (known (spec self.old) bytes) → (moments : ℕ → ℕ) (moment_set : ℕ) →
             last_byte_moment moments (length bytes) ≡ moment_set → end_moment (spec self.old) moments bytes ≡ moment self.new moment_set };
 

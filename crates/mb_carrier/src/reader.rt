@@ -2,9 +2,10 @@
 
 ghost use Rattle.std.specs.Prelude.{◌≡◌, ℕ, ◌+◌, ◌*◌, ◌^◌, true, ◌<◌, ◌≤◌, not, List, [], ◌++◌, length, OnSome, IfSome, IfNone};
 ghost use Rattle.mb_stream.specs.Told.{Known};
-ghost use Rattle.mb_din.specs.Reader.{IsLongest, breaks};
-ghost use Rattle.mb_din.specs.Turn.{answer};
-ghost use Rattle.mb_outside.specs.Taking.{IsFront};
+ghost use Rattle.mb_stream.specs.Reading.{told_signs};
+ghost use Rattle.mb_stream.specs.ReaderLaw.{IsLongest, breaks};
+ghost use Rattle.mb_stream.specs.ReaderLaw.{answer};
+ghost use Rattle.mb_message.specs.Front.{IsFront};
 ghost use Rattle.mb_carrier.specs.Carrier.{known, end_told, last_byte_moment, end_moment, whole};
 ghost use Rattle.mb_carrier.specs.Hop.{ReaderGoes};
 ghost use Rattle.mb_carrier.specs.Port.{reader_spec, reader_offset, reader_owed, reader_moment, moment_set, beside, is_partial, ReaderStands, ReaderRests, BrokenNext};
@@ -84,6 +85,9 @@ impl PortReader {
         // the port.
         ensures before { breaks (answer (seen_of result)) ≡ true → BrokenNext self.new input.new.now × ReaderRests self.new }
 
+        // An event has no more marks than the input handed in has bytes: who hands in one byte gets one mark at most.
+        ensures few { length (told_signs (answer (seen_of result))) ≤ length input.old.now }
+
         // A caller's loop ends by this.
         ensures progress { OnSome result (2 * length input.new.now + reader_owed self.new < 2 * length input.old.now + reader_owed self.old) }
     {
@@ -105,6 +109,9 @@ impl PortReader {
         ensures told { (bytes : List ℕ) → ReaderStands self.old bytes (known (reader_spec self.old) bytes) →
             answer (seen_of result) ≡ end_told (reader_spec self.old) bytes }
         ensures some { OnSome result (answer (seen_of result) ≡ [] → ⊥) }
+
+        // A second end tells nothing.
+        ensures once { OnSome result (ReaderRests self.old → ⊥) }
     {
         match last_seen(&mut self.carrier) {
             Some(seen) => Some(PortStep::at(moment_by(&self.carrier, self.moment), seen)),
@@ -194,6 +201,7 @@ fn next_seen<'a>(carrier: &mut ReaderOf, input: &mut &'a [u8]) -> Option<Seen<'a
     ensures all_told { IfNone result ((bytes : List ℕ) (told : List Known) → ReaderStandsBy carrier.old bytes told →
         IsFront told (known (reader_spec_by carrier.old) (bytes ++ input.old.now)) → told ≡ known (reader_spec_by carrier.old) (bytes ++ input.old.now)) }
     ensures longest { IfSome result (IsLongest (beside_by carrier.new input.new.now)) }
+    ensures few { length (told_signs (answer result)) ≤ length input.old.now }
     ensures before { breaks (answer result) ≡ true → BrokenNextBy carrier.new input.new.now × ReaderRestsBy carrier.new }
     ensures progress { OnSome result (2 * length input.new.now + reader_owed_by carrier.new < 2 * length input.old.now + reader_owed_by carrier.old) }
 {
@@ -212,6 +220,7 @@ fn last_seen(carrier: &mut ReaderOf) -> Option<Seen<'static>>
     ensures told { (bytes : List ℕ) → ReaderStandsBy carrier.old bytes (known (reader_spec_by carrier.old) bytes) →
         answer result ≡ end_told (reader_spec_by carrier.old) bytes }
     ensures some { OnSome result (answer result ≡ [] → ⊥) }
+    ensures once { OnSome result (ReaderRestsBy carrier.old → ⊥) }
     ensures at { (bytes : List ℕ) → ReaderStandsBy carrier.old bytes (known (reader_spec_by carrier.old) bytes) →
         (moments : ℕ → ℕ) (moment_set : ℕ) → last_byte_moment moments (length bytes) ≡ moment_set →
         end_moment (reader_spec_by carrier.old) moments bytes ≡ reader_moment_by carrier.new moment_set }

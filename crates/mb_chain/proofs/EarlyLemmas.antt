@@ -5,8 +5,9 @@ use Rattle.mb_message.specs.Signs.{Sign}
 use Rattle.mb_stream.specs.Puts.{Put, signs_in}
 use Rattle.mb_stream.specs.Standing.{suited, is_valid, AreValid}
 use Rattle.mb_stream.proofs.StandingLemmas.{both}
-use Rattle.mb_outside.specs.Taking.{IsFront}
-use Rattle.mb_carrier.specs.Carrier.{known, end_told, told_signs, marks_of, marks_so_far, puts_so_far, puts_of, known_signs, live, written}
+use Rattle.mb_message.specs.Front.{IsFront}
+use Rattle.mb_stream.specs.Reading.{told_signs}
+use Rattle.mb_carrier.specs.Carrier.{known, end_told, marks_of, marks_so_far, puts_so_far, puts_of, known_signs, live, written}
 use Rattle.mb_carrier.specs.declared.spec.Spec.{Spec}
 use Rattle.mb_carrier.proofs.ConversionLemmas.{laws, hop-in, hop-suits, hop-valid}
 use Rattle.mb_carrier.proofs.GrowSpecs.{grows}

@@ -13,9 +13,10 @@ use Rattle.mb_stream.specs.Standing.{suited}
 use Rattle.mb_stream.specs.Told.{Known, Told, Marks, begun_at, truncated_end, broken_end}
 use Rattle.mb_stream.proofs.PutsLemmas.{signs_in-more}
 use Rattle.mb_stream.proofs.StandingLemmas.{apart}
-use Rattle.mb_din.specs.Turn.{answer, told_by}
-use Rattle.mb_outside.specs.Taking.{IsFront}
-use Rattle.mb_carrier.specs.Carrier.{known, end_told, told_signs, payload_of, puts_so_far, puts_of, last_byte_moment, end_moment, live, written}
+use Rattle.mb_stream.specs.ReaderLaw.{answer, told_by}
+use Rattle.mb_message.specs.Front.{IsFront}
+use Rattle.mb_stream.specs.Reading.{told_signs}
+use Rattle.mb_carrier.specs.Carrier.{known, end_told, payload_of, puts_so_far, puts_of, last_byte_moment, end_moment, live, written}
 use Rattle.mb_carrier.specs.Conversion.{moments_of}
 use Rattle.mb_carrier.specs.Hop.{HopStands, HaveMoment}
 use Rattle.mb_carrier.specs.Port.{reader_spec, ReaderStands, writer_spec, WriterStands, writer_in_sysex}

@@ -7,7 +7,7 @@ use Rattle.mb_message.specs.Signs.{Sign, signs_of_event}
 use Rattle.mb_stream.specs.Puts.{Put, signs_in, puts_at}
 use Rattle.mb_stream.specs.Standing.{suited}
 use Rattle.mb_stream.specs.Told.{Known}
-use Rattle.mb_outside.specs.Taking.{IsFront}
+use Rattle.mb_message.specs.Front.{IsFront}
 use Rattle.mb_carrier.specs.Carrier.{known, puts_known, puts_so_far, last_byte_moment, live}
 use Rattle.mb_carrier.specs.Conversion.{moments_of}
 use Rattle.mb_carrier.specs.Hop.{HopStands, HaveMoment}

@@ -3,8 +3,9 @@ use Rattle.std.proofs.Common.{◌≡◌, ℕ, zero, suc, ◌+◌, ◌<◌, ◌�
 use Rattle.std.proofs.lemmas.List.{append-nil}
 use Rattle.mb_stream.specs.Puts.{Put, signs_in}
 use Rattle.mb_stream.specs.Standing.{suited}
-use Rattle.mb_outside.specs.Taking.{IsFront}
-use Rattle.mb_carrier.specs.Carrier.{known, puts_so_far, puts_of, last_byte_moment, end_moment, told_signs, end_told, live, written}
+use Rattle.mb_message.specs.Front.{IsFront}
+use Rattle.mb_stream.specs.Reading.{told_signs}
+use Rattle.mb_carrier.specs.Carrier.{known, puts_so_far, puts_of, last_byte_moment, end_moment, end_told, live, written}
 use Rattle.mb_carrier.specs.Conversion.{moments_of, none_set, carried, through, carried_so_far, live_through}
 use Rattle.mb_carrier.specs.Hop.{HaveMoment}
 use Rattle.mb_carrier.specs.Port.{reader_spec, ReaderStands, writer_spec, WriterStands}

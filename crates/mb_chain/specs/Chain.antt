@@ -9,7 +9,7 @@
 --   crossing links i bytes     what crosses place i: the bytes fed, or what the writer of the spec at that place wrote
 --   IsFaulty n fault           a chain of so many specs can't be opened
 use Rattle.std.specs.Prelude.{◌≡◌, ℕ, ◌<◌, Bool, false, List, [], ◌∷◌, ◌++◌, length, map, take}
-use Rattle.mb_outside.specs.Taking.{IsFront}
+use Rattle.mb_message.specs.Front.{IsFront}
 use Rattle.mb_carrier.specs.Conversion.{none_set}
 use Rattle.mb_carrier.specs.Word.{IsSpec}
 use Rattle.mb_carrier.specs.declared.spec.Spec.{Spec}

@@ -15,7 +15,7 @@ use Rattle.std.specs.Prelude.{◌≡◌, ℕ, ◌+◌, ◌≤◌, ◌^◌, Bool,
 use Rattle.mb_stream.specs.Told.{Known}
 use Rattle.mb_message.specs.Signs.{Sign}
 use Rattle.mb_stream.specs.Puts.{Put, puts_at}
-use Rattle.mb_outside.specs.Taking.{IsFront}
+use Rattle.mb_message.specs.Front.{IsFront}
 use Rattle.mb_carrier.specs.Carrier.{puts_so_far, puts_of, last_byte_moment, end_moment, live, written}
 use Rattle.mb_carrier.specs.Conversion.{moments_of}
 use Rattle.mb_carrier.specs.Hop.{HopStands, HaveMoment}

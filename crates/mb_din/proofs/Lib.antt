@@ -2,6 +2,7 @@ pub mod ByteNews
 pub mod DinMarks
 mod Examples
 pub mod FewMarks
+pub mod FewTold
 pub mod FreeLemmas
 pub mod NextLaw
 pub mod ReaderLaw

@@ -1,5 +1,5 @@
 use Rattle.std.proofs.Common.{ℕ, List, refl, ap, subst}
-use Rattle.mb_din.specs.Turn.{answer}
+use Rattle.mb_stream.specs.ReaderLaw.{answer}
 use Rattle.std.proofs.lemmas.Result.{on_ok_weaker, on_err_weaker}
 use Rattle.mb_carrier.proofs.ListLemmas.{Fronted, ended-none, ended-seen, ended-halted, ended-last_halted, noted-more, end-says}
 use Rattle.mb_carrier.proofs.listing.list_end.Goals as goal

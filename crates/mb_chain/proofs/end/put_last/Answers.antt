@@ -1,5 +1,5 @@
 use Rattle.std.proofs.Common.{◌∙◌, refl, sym, ap}
-use Rattle.mb_din.specs.Turn.{answer}
+use Rattle.mb_stream.specs.ReaderLaw.{answer}
 use Rattle.mb_carrier.specs.Carrier.{longest_of}
 use Rattle.mb_carrier.specs.Port.{reader_spec, reader_moment, ReaderStands, writer_spec, WriterStands}
 use Rattle.mb_chain.proofs.EndLemmas.{last-suits, last-short, last-put, last-none, end-told}

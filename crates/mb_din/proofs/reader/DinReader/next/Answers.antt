@@ -1,4 +1,5 @@
-use Rattle.mb_din.specs.Turn.{answer}
+use Rattle.mb_stream.specs.ReaderLaw.{answer}
+use Rattle.mb_din.proofs.FewTold.{few_of}
 use Rattle.mb_din.proofs.FreeLemmas.{short_frees}
 use Rattle.mb_din.proofs.ReaderLaw.{next_stands, all_told}
 use Rattle.mb_din.proofs.RunNextLemmas.{run_next}
@@ -40,3 +41,6 @@ returns-clause-free c =
 pub returns-clause-runs : goal.returns-clause-runs
 returns-clause-runs c =
     run_next c.args.self.now c.args.input.now.now (answer c.advance.result) c.advance.ensures.told
+
+pub returns-clause-few : goal.returns-clause-few
+returns-clause-few c = few_of c.args.self.now c.args.input.now.now (answer c.advance.result) c.advance.ensures.told
