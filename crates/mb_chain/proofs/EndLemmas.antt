@@ -380,6 +380,9 @@ pub first-end_halted : (hops : List Hop) (h : Hop) (behind : List Hop) (took : L
     RowEndHalted (link_of h ∷ map link_of behind) (RowOf h behind) took → RowEndHalted (map link_of hops) (RowStands hops) took
 first-end_halted hops h behind took same f = subst (λ (hs : List Hop). RowEndHalted (map link_of hs) (RowStands hs) took) (sym same) f
 
+pub may_end-links : (links other : List Link) (was : (ℕ → ℕ) → List ℕ → Type 0) → other ≡ links → MayEnd links was → MayEnd other was
+may_end-links links other was same w = subst (λ (ls : List Link). MayEnd ls was) (sym same) w
+
 pub ended-links : (links other : List Link) (was done : (ℕ → ℕ) → List ℕ → Type 0) (took : List ℕ → Type 0) → other ≡ links → RowEnded other was done took → RowEnded links was done took
 ended-links links other was done took same e = subst (λ (ls : List Link). RowEnded ls was done took) same e
 

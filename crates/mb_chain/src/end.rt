@@ -59,6 +59,7 @@ fn put_last(reader: &mut PortReader, writer: &mut PortWriter, moment: u64, held:
             writer.put(at, ev, held);
             at
         }
-        _ => EventReader::moment(reader, moment),
+        Some(Seen::Note(_)) => EventReader::moment(reader, moment),
+        None => EventReader::moment(reader, moment),
     }
 }

@@ -1,12 +1,9 @@
-use Rattle.std.proofs.Common.{◌∙◌, refl, arith, ◌+◌}
+use Rattle.std.proofs.Common.{rules, ◌∙◌, refl, arith, ◌+◌}
 use Rattle.std.proofs.lemmas.Result.{on_ok_weaker, on_err_weaker}
 use Rattle.mb_carrier.specs.Port.{WriterStands}
 use Rattle.mb_chain.proofs.FlowLemmas.{fed-links, halted-links, may-links}
-use Rattle.mb_chain.proofs.EndLemmas.{closing, last-may, rest-may, end-may, put-small, last-small, end-halted_last, end-halted_rest, end-halted_behind, end-ended, first-end, first-ended, first-end_halted, ended-links, end_halted-links, row-at_end}
+use Rattle.mb_chain.proofs.EndLemmas.{closing, last-may, rest-may, end-may, put-small, last-small, end-halted_last, end-halted_rest, end-halted_behind, end-ended, first-end, first-ended, first-end_halted, may_end-links, ended-links, end_halted-links}
 use Rattle.mb_chain.proofs.end.+end.Goals as goal
-
-pub put_last-requires-clause-stands : goal.put_last-requires-clause-stands
-put_last-requires-clause-stands g t c = row-at_end _ _ _ (first-end _ _ _ c.in-Some.ensures.cases.0 c.requires.stands)
 
 pub overflow_add-hop : goal.overflow_add-hop
 overflow_add-hop g t c = omega (arith, c.len.ensures.value, put-small _ _ _ (WriterStands c.put_last-at.new.writer) _ _ c.put_last-at.ensures.put (first-end _ _ _ c.in-Some.ensures.cases.0 c.requires.stands))
@@ -40,6 +37,15 @@ returns-in-Err-flow-clause-halted g t c =
     (closing _ _ _ (WriterStands c.put_last-at.new.writer) _ _ _ _ c.put_last-at.ensures.writes c.put_last-at.ensures.put c.new-rest.ensures c.finish.ensures.written)
     (fed-links _ _ _ _ _ _ _ _ refl c.as_slice.ensures.value c.in_default-flow.ensures.fed)
     (halted-links _ _ _ _ _ _ _ c.flow.ensures.links c.as_slice-2.ensures.value c.in-Err-flow.ensures.halted))
+
+pub end-requires : goal.end-requires
+end-requires g t c κs within =
+    let stands =
+    end-may _ _ _ _ _ _ _ _ _ _ (closing _ _ _ (WriterStands c.put_last-at.new.writer) _ _ _ _ c.put_last-at.ensures.writes c.put_last-at.ensures.put c.new-rest.ensures c.finish.ensures.written)
+    (fed-links _ _ _ _ _ _ _ _ refl c.as_slice.ensures.value c.in_default-flow.ensures.fed)
+    (fed-links _ _ _ _ _ _ _ _ c.flow.ensures.links c.as_slice-2.ensures.value c.in_default-flow-2.ensures.fed)
+    (first-end _ _ _ c.in-Some.ensures.cases.0 c.requires.stands) in
+    (search rules, (within, (c.flow-2.ensures.ready, may_end-links _ _ _ (c.flow-2.ensures.links ∙ c.flow.ensures.links) stands)))
 
 pub returns-clause-ended : goal.returns-clause-ended
 returns-clause-ended g t c =
