@@ -6,6 +6,7 @@ pub mod Hop
 pub mod Laws
 pub mod Line
 pub mod Lines
+pub mod Listed
 pub mod Listing
 pub mod Port
 pub mod SpecLaws

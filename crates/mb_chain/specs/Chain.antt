@@ -11,16 +11,11 @@
 use Rattle.std.specs.Prelude.{◌≡◌, ℕ, ◌<◌, Bool, false, List, [], ◌∷◌, ◌++◌, length, map, take}
 use Rattle.mb_message.specs.Front.{IsFront}
 use Rattle.mb_carrier.specs.Conversion.{none_set}
-use Rattle.mb_carrier.specs.Word.{IsSpec}
 use Rattle.mb_carrier.specs.declared.spec.Spec.{Spec}
 use Rattle.mb_chain.specs.Row.{Link, link_of, links_from, live_over, through_over, RowStands, RowDone}
 use Rattle.mb_chain.specs.declared.chain.Chain.{Chain}
 use Rattle.mb_chain.specs.declared.chain.ChainFault.{ChainFault}
 use Rattle.mb_chain.specs.declared.chain.ChainFault.TheVariants.{TooFew, TooMany, Memory}
-
-abbrev pub AreSpecs : List Spec → Type 0
-AreSpecs [] = Unit {0}
-AreSpecs (s ∷ ss) = IsSpec s × AreSpecs ss
 
 abbrev pub links_of : List Spec → List Link
 links_of [] = []

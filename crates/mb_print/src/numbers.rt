@@ -1,6 +1,6 @@
-//! Parts of a line: numbers in decimal, bytes by two hexadecimal digits, words.
+//! Parts of a line: numbers in decimal, bytes by two hexadecimal digits, words. And a number that stands in a text.
 
-ghost use Rattle.std.specs.Prelude.{◌≡◌, ◌+◌, ◌<◌, ◌≤◌, ◌++◌, length, decimal};
+ghost use Rattle.std.specs.Prelude.{◌≡◌, ℕ, ◌+◌, ◌<◌, ◌≤◌, ◌++◌, length, decimal, IfSome};
 ghost use Rattle.arrayvec.specs.ArrayVec.{array_vec_len};
 ghost use Rattle.mb_print.specs.Lines.{hex_digit, spaced_byte};
 
@@ -60,4 +60,29 @@ pub fn put_text(text: &str, out: &mut Line)
 {
     // There is room.
     let _fits = out.try_extend_from_slice(text.as_bytes());
+}
+
+/// The number that a text is in decimal, without a sign or leading zeros, where it is at most `most`.
+pub fn read_number(digits: &[u8], most: u64) -> Option<u64>
+    ensures within { IfSome result (λ number. number ≤ most) }
+    ensures digits { IfSome result (λ number. digits.now ≡ decimal number) }
+    ensures only { (number : ℕ) → number ≤ most → digits.now ≡ decimal number → result ≡ Some number }
+{
+    let Some((last, front)) = digits.split_last() else {
+        return None;
+    };
+    if !last.is_ascii_digit() {
+        return None;
+    }
+    let ones = u64::from(*last - b'0');
+    if front.is_empty() {
+        return if ones <= most { Some(ones) } else { None };
+    }
+    let Some(tens) = read_number(front, most / 10) else {
+        return None;
+    };
+    if tens == 0 || most - 10 * tens < ones {
+        return None;
+    }
+    Some(10 * tens + ones)
 }

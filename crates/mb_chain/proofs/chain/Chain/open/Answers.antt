@@ -1,7 +1,6 @@
 use Rattle.std.proofs.Common.{refl, sym, subst, arith}
 use Rattle.mb_carrier.specs.Conversion.{none_set}
-use Rattle.mb_carrier.specs.Word.{IsSpec}
-use Rattle.mb_chain.specs.Chain.{AreSpecs}
+use Rattle.mb_carrier.specs.Word.{IsSpec, AreSpecs}
 use Rattle.mb_chain.proofs.ChainLemmas.{AllFresh, fresh-push, fresh-row, links-next, links-done}
 use Rattle.mb_chain.proofs.chain.Chain.open.Goals as goal
 

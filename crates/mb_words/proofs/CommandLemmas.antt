@@ -1,0 +1,116 @@
+-- Words are one command at most: names differ, and each command's words give its parts.
+use Rattle.std.proofs.Common.{◌≡◌, ℕ, suc, Bool, true, false, if◌then◌else◌, List, [], ◌∷◌, ◌++◌, length, refl, sym, ◌∙◌, ap, subst, arith, codes}
+use Rattle.std.specs.Str.{bytes_eq}
+use Rattle.mb_carrier.specs.Word.{IsWordOf, AreSpecs}
+use Rattle.mb_carrier.specs.declared.spec.Spec.{Spec}
+use Rattle.mb_carrier.specs.declared.spec.Spec.TheVariants.{Din, Usb}
+use Rattle.mb_carrier.proofs.WordLemmas.{one_spec, word-is_spec}
+use Rattle.mb_words.specs.Command.{Command, Converting, Listing, Means, AreWordsOf, name_of, asks_tally, specs_of}
+use Rattle.mb_words.specs.Meaning.{front_of, end_of, converting}
+
+pub heads : (x y : List ℕ) (xs ys : List (List ℕ)) → x ∷ xs ≡ y ∷ ys → x ≡ y
+heads x y xs ys e = cc
+
+pub tails : (x y : List ℕ) (xs ys : List (List ℕ)) → x ∷ xs ≡ y ∷ ys → xs ≡ ys
+tails x y xs ys e = cc
+
+-- words of specs
+
+pub same_specs : (words : List (List ℕ)) (ss ts : List Spec) → AreWordsOf words ss → AreWordsOf words ts → ss ≡ ts
+same_specs [] [] [] a b = refl
+same_specs [] [] (t ∷ ts) a b = elim b [ ]
+same_specs [] (s ∷ ss) ts a b = elim a [ ]
+same_specs (w ∷ words) [] ts a b = elim a [ ]
+same_specs (w ∷ words) (s ∷ ss) [] a b = elim b [ ]
+same_specs (w ∷ words) (s ∷ ss) (t ∷ ts) a b =
+    ap (λ (x : Spec). x ∷ ss) (one_spec w s t a.0 b.0) ∙ ap (λ (xs : List Spec). t ∷ xs) (same_specs words ss ts a.1 b.1)
+
+pub as_many : (words : List (List ℕ)) (specs : List Spec) → AreWordsOf words specs → length words ≡ length specs
+as_many [] [] a = refl
+as_many [] (s ∷ specs) a = elim a [ ]
+as_many (w ∷ words) [] a = elim a [ ]
+as_many (w ∷ words) (s ∷ specs) a = ap (λ n. suc n) (as_many words specs a.1)
+
+pub are_specs : (words : List (List ℕ)) (specs : List Spec) → AreWordsOf words specs → AreSpecs specs
+are_specs [] [] a = tt
+are_specs [] (s ∷ specs) a = elim a [ ]
+are_specs (w ∷ words) [] a = elim a [ ]
+are_specs (w ∷ words) (s ∷ specs) a = (word-is_spec w s a.0, are_specs words specs a.1)
+
+-- `tally` is no spec's word
+abbrev first_letter : List ℕ → ℕ
+first_letter [] = 0
+first_letter (letter ∷ letters) = letter
+
+not_tally : (s : Spec) → IsWordOf (codes "tally") s → ⊥
+not_tally Din e = (let differ : 116 ≡ 100 = ap first_letter e in omega (arith, differ))
+not_tally (Usb cable) e = (let differ : 116 ≡ 117 = ap first_letter e.1 in omega (arith, differ))
+
+-- whether a tally is asked
+
+pub no_tally : (words rest : List (List ℕ)) (specs : List Spec) → words ≡ codes "tally" ∷ rest → AreWordsOf words specs → ⊥
+no_tally [] rest specs e a = cc
+no_tally (w ∷ words) rest [] e a = a
+no_tally (w ∷ words) rest (s ∷ specs) e a = not_tally s (subst (λ (x : List ℕ). IsWordOf x s) (heads w (codes "tally") words rest e) a.0)
+
+abbrev options : (tally : Bool) → List (List ℕ)
+options tally = if tally then codes "tally" ∷ [] else []
+
+-- the words behind a name tell whether a tally is asked, and the specs
+same_behind : (v t : Bool) (words more : List (List ℕ)) (ss ts : List Spec) → options v ++ words ≡ options t ++ more → AreWordsOf words ss → AreWordsOf more ts → (v ≡ t) × (ss ≡ ts)
+same_behind true true words more ss ts e m n =
+    let same = tails (codes "tally") (codes "tally") words more e in
+    (refl, same_specs more ss ts (subst (λ (ws : List (List ℕ)). AreWordsOf ws ss) same m) n)
+same_behind false false words more ss ts e m n = (refl, same_specs more ss ts (subst (λ (ws : List (List ℕ)). AreWordsOf ws ss) e m) n)
+same_behind true false words more ss ts e m n = absurd (no_tally more words ts (sym e) n)
+same_behind false true words more ss ts e m n = absurd (no_tally words more ss e m)
+
+-- a command is given by its name, its option and its specs
+
+abbrev first_of : List Spec → Spec
+first_of [] = Din
+first_of (s ∷ specs) = s
+
+abbrev rebuilt : (name : List ℕ) (tally : Bool) (specs : List Spec) → Command
+rebuilt name tally specs =
+    if bytes_eq name (codes "convert") then converting tally specs
+    else (if bytes_eq name (codes "trace") then Listing true (first_of specs)
+    else Listing false (first_of specs))
+
+front_again : (s : Spec) (between : List Spec) (last : Spec) → front_of s (between ++ last ∷ []) ≡ s ∷ between
+front_again s [] last = refl
+front_again s (t ∷ between) last = ap (λ (specs : List Spec). s ∷ specs) (front_again t between last)
+
+end_again : (s : Spec) (between : List Spec) (last : Spec) → end_of s (between ++ last ∷ []) ≡ last
+end_again s [] last = refl
+end_again s (t ∷ between) last = end_again t between last
+
+converting_again : (tally : Bool) (first : Spec) (between : List Spec) (last : Spec) → converting tally (first ∷ (between ++ last ∷ [])) ≡ Converting tally first between last
+converting_again tally first [] last = refl
+converting_again tally first (s ∷ between) last =
+    ap (λ (specs : List Spec). Converting tally first specs (end_of s (between ++ last ∷ []))) (front_again s between last)
+    ∙ ap (λ (t : Spec). Converting tally first (s ∷ between) t) (end_again s between last)
+
+again : (c : Command) → rebuilt (name_of c) (asks_tally c) (specs_of c) ≡ c
+again (Converting tally first between last) = converting_again tally first between last
+again (Listing true s) = refl
+again (Listing false s) = refl
+
+pub one_command : (words : List (List ℕ)) (c d : Command) → Means words c → Means words d → c ≡ d
+one_command words c d m n =
+    let same = sym m.words_are ∙ n.words_are in
+    let name : name_of c ≡ name_of d = heads _ _ _ _ same in
+    let behind = same_behind (asks_tally c) (asks_tally d) m.arguments n.arguments (specs_of c) (specs_of d) (tails _ _ _ _ same) m.are_specs n.are_specs in
+    sym (again c)
+    ∙ (ap (λ (x : List ℕ). rebuilt x (asks_tally c) (specs_of c)) name
+    ∙ (ap (λ (t : Bool). rebuilt (name_of d) t (specs_of c)) behind.0
+    ∙ (ap (λ (specs : List Spec). rebuilt (name_of d) (asks_tally d) specs) behind.1 ∙ again d)))
+
+-- the specs of a command that was read, by their parts
+pub specs_again : (s : Spec) (specs : List Spec) → s ∷ specs ≡ front_of s specs ++ end_of s specs ∷ []
+specs_again s [] = refl
+specs_again s (t ∷ specs) = ap (λ (xs : List Spec). s ∷ xs) (specs_again t specs)
+
+pub front_length : (s : Spec) (specs : List Spec) → length (front_of s specs) ≡ length specs
+front_length s [] = refl
+front_length s (t ∷ specs) = ap (λ n. suc n) (front_length t specs)

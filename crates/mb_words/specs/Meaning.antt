@@ -1,0 +1,43 @@
+-- What a command that was read means.
+--
+--   place_of_specs tally    the place of a conversion's first spec among its words
+--   meaning c               the command of the definitions
+--   IsWithin c              its specs are within their carriers' numbers, and a chain's are two to ten
+use Rattle.std.specs.Prelude.{ℕ, ◌≤◌, Bool, if◌then◌else◌, true, false, List, [], ◌∷◌, length}
+use Rattle.mb_carrier.specs.Word.{IsSpec, AreSpecs}
+use Rattle.mb_carrier.specs.declared.spec.Spec.{Spec}
+use Rattle.mb_carrier.specs.declared.spec.Spec.TheVariants as spec
+use Rattle.mb_words.specs.Command as mean
+use Rattle.mb_words.specs.declared.command.Command.{Command}
+use Rattle.mb_words.specs.declared.command.Command.TheVariants.{Convert, Trace, Check}
+
+abbrev pub place_of_specs : (tally : Bool) → ℕ
+place_of_specs tally = if tally then 2 else 1
+
+-- a list of specs as those before the last, and the last
+abbrev pub front_of : Spec → List Spec → List Spec
+front_of s [] = []
+front_of s (t ∷ specs) = s ∷ front_of t specs
+
+abbrev pub end_of : Spec → List Spec → Spec
+end_of s [] = s
+end_of s (t ∷ specs) = end_of t specs
+
+-- one spec alone is no conversion
+abbrev pub converting_from : (tally : Bool) (first : Spec) → List Spec → mean.Command
+converting_from tally first [] = mean.Listing tally first
+converting_from tally first (s ∷ specs) = mean.Converting tally first (front_of s specs) (end_of s specs)
+
+abbrev pub converting : (tally : Bool) → List Spec → mean.Command
+converting tally [] = mean.Listing tally spec.Din
+converting tally (first ∷ specs) = converting_from tally first specs
+
+abbrev pub meaning : Command → mean.Command
+meaning (Convert tally specs) = converting tally specs.items
+meaning (Trace s) = mean.Listing true s
+meaning (Check s) = mean.Listing false s
+
+abbrev pub IsWithin : Command → Type 0
+IsWithin (Convert tally specs) = AreSpecs specs.items × (2 ≤ length specs.items) × (length specs.items ≤ 10)
+IsWithin (Trace s) = IsSpec s
+IsWithin (Check s) = IsSpec s

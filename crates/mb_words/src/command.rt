@@ -1,0 +1,19 @@
+//! Commands.
+
+use arrayvec::ArrayVec;
+use mb_carrier::Spec;
+
+/// The specs of a chain: two to ten.
+pub type Specs = ArrayVec<Spec, 10>;
+
+/// What is to be done.
+#[derive(Drop)]
+pub enum Command {
+    /// Read by the first spec, write by the last, by way of those between. Where a tally is asked, tell how many bytes
+    /// crossed each.
+    Convert { tally: bool, specs: Specs },
+    /// Print the marks and the notes of a recording.
+    Trace(Spec),
+    /// Print the notes of a recording.
+    Check(Spec),
+}
