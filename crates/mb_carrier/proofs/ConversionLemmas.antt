@@ -12,7 +12,8 @@ use Rattle.mb_carrier.specs.DinLaws as din_laws
 use Rattle.mb_carrier.specs.UsbLaws as usb_laws
 use Rattle.mb_carrier.specs.declared.spec.Spec.TheVariants.{Din, Usb}
 use Rattle.mb_din.proofs.DinMarks as din
-use Rattle.mb_din.proofs.WrittenMarks as din_written
+use Rattle.mb_din.proofs.WrittenMarks as din_law
+use Rattle.mb_din.specs.Written.{din_written}
 use Rattle.mb_usb.proofs.CarrierLaws as usb
 
 pub laws : (s : Spec) → CarrierLaws s
@@ -21,10 +22,10 @@ laws Din =
       suits = din.suits;
       valid = din.valid;
       few = din.two_a_byte;
-      means = λ puts. din_written.means (signs_in puts);
-      one_more = λ puts. din_written.one_more (signs_in puts);
-      size = λ puts suits. omega (arith, din_written.size (signs_in puts));
-      clean = λ puts. din_written.clean (signs_in puts);
+      means = λ puts. din_law.means (signs_in puts);
+      one_more = λ puts. din_law.one_more (signs_in puts);
+      size = λ puts suits. omega (arith, din_law.size (signs_in puts));
+      clean = λ puts. din_law.clean (signs_in puts);
       whole_packets = λ puts suits. refl;
       ends = din_laws.marks-end;
     }
@@ -97,6 +98,16 @@ through-means first between last bytes =
 pub through-clean : (first : Spec) (between : List Spec) (last : Spec) (bytes : List ℕ) → notes_of last (through first between last bytes) ≡ []
 through-clean first between last bytes =
     (laws last).clean (carried between (first_end first bytes) (read_first first bytes))
+    (carried-suits between (first_end first bytes) (read_first first bytes) (hop-suits first none_set bytes))
+    (carried-valid between (first_end first bytes) (read_first first bytes) (hop-valid first none_set bytes))
+
+-- what is written as a byte line is read and written again as it is
+pub through-canonical : (first : Spec) (between : List Spec) (bytes : List ℕ) →
+    through Din [] Din (through first between Din bytes) ≡ through first between Din bytes
+through-canonical first between bytes =
+    let handed : List Put = carried between (first_end first bytes) (read_first first bytes) in
+    ap din_written (hop-in Din none_set (din_written (signs_in handed)))
+    ∙ din_law.canonical (signs_in handed)
     (carried-suits between (first_end first bytes) (read_first first bytes) (hop-suits first none_set bytes))
     (carried-valid between (first_end first bytes) (read_first first bytes) (hop-valid first none_set bytes))
 

@@ -6,6 +6,7 @@ pub mod GrowLemmas
 pub mod GrowSpecs
 pub mod LineLemmas
 pub mod ListLemmas
+pub mod NoteLemmas
 pub mod PlaceLemmas
 pub mod PortLemmas
 pub mod PutLemmas

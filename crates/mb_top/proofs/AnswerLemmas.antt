@@ -1,21 +1,27 @@
 -- From what a command did to what the caller sees.
-use Rattle.std.proofs.Common.{◌≡◌, ◌≢◌, Bool, IsTrue, ℕ, ◌+◌, ◌<◌, ◌≤◌, ◌↔◌, true, false, List, [], ◌∷◌, length, take, refl, sym, ◌∙◌, ap, subst, inl, inr, arith, length-append}
+use Rattle.std.proofs.Common.{◌≡◌, ◌≢◌, Bool, IsTrue, ℕ, ◌+◌, ◌<◌, ◌≤◌, ◌↔◌, ◌==◌, ◌||◌, if◌then◌else◌, true, false, List, [], ◌++◌, length, take, drop, refl, sym, ◌∙◌, ap, subst, inl, inr, ◌⊎◌, arith, length-append}
 use Rattle.std.specs.Prelude.{Result, Ok, Err, OnOk, OnErr}
+use Rattle.std.proofs.lemmas.Bool.Decides.{nat_tests}
 use Rattle.std.proofs.lemmas.List.{append-nil, take_at, drop_at}
 use Rattle.mb_outside.specs.Cause.{Rose}
-use Rattle.mb_outside.specs.Contents.{Contents, after_write}
-use Rattle.mb_outside.specs.ContentsLaws.{after_write-none}
-use Rattle.mb_outside.specs.Taking.{Wrote}
+use Rattle.mb_outside.specs.Contents.{Contents, with_entry, after_read, after_write}
+use Rattle.mb_outside.specs.ContentsLaws.{after_write-none, after_write-twice, after_read-none}
 use Rattle.mb_message.specs.Front.{IsFront}
+use Rattle.mb_outside.specs.Taking.{Wrote}
 use Rattle.mb_carrier.specs.Carrier.{whole}
-use Rattle.mb_carrier.specs.Word.{word_of}
 use Rattle.mb_carrier.specs.declared.spec.Spec.{Spec}
-use Rattle.mb_carrier.proofs.WordLemmas.{word_of-same}
-use Rattle.mb_top.specs.Command.{Command, Converting, Listing, Means, words_of}
-use Rattle.mb_top.specs.Output.{source_of}
-use Rattle.mb_top.specs.Answer.{Answered, WentThrough, RanWords, Ran, Ends, EndsAs, HasFault, Says, faults_told, changed, taken_off, added_to, code_of, text_of, is_usage, wants_memory, read_all}
+use Rattle.mb_words.specs.Command.{Command, Converting, Listing, Means}
+use Rattle.mb_words.proofs.CommandLemmas.{one_command}
+use Rattle.mb_top.specs.Output.{ReadsOne, reads_from, writes_to, may_want_memory, answers_notes, is_whole}
+use Rattle.mb_top.specs.Answer.{Answered, WentThrough, Moved, EndsAs, Says, faults_told, taken_off, added_to, code_of, text_of, read_all}
+use Rattle.mb_top.specs.Ran.{Ran, RanWords, MayAnswer, MayAnswerWords, Faulted, written_of}
 use Rattle.mb_top.specs.declared.status.Status.{Status}
-use Rattle.mb_top.specs.declared.status.Status.TheVariants.{Done, Noted, Usage, ReadFault, WriteFault, Cut, TooLong, NoMemory}
+use Rattle.mb_top.specs.declared.status.Status.TheVariants.{Done, Noted, Usage, Cut, NoMemory, Stopped}
+use Rattle.mb_top.specs.declared.status.Stop.TheVariants.{ReadFault, Refused, TooLong}
+use Rattle.mb_top.specs.declared.status.Stop.{Stop}
+use Rattle.mb_carrier.specs.Conversion.{through}
+use Rattle.mb_carrier.specs.declared.spec.Spec.TheVariants.{Din}
+use Rattle.mb_carrier.proofs.ConversionLemmas.{through-canonical}
 
 -- a text was written as far as writing went
 pub said : {T E S : Type 0} (r : Result T E) (tells : Bool) (contents : S → Contents) (read_faults : S → ℕ) (before after : S) (text : List ℕ) (rose same : Type 0) →
@@ -32,259 +38,429 @@ pub none_said : (contents : Contents) (text : List ℕ) (rose : Type 0) (faults 
     (words : List ℕ) × (contents ≡ after_write 2 words contents) × Says rose words text × (words ≡ text → faults ≡ faults)
 none_said contents text rose faults none = ([], sym (after_write-none 2 contents), record { front = (text, refl); all = inl (sym none) }, λ whole. refl)
 
--- words are one command
-
-only-between : (f l : Spec) (b : List Spec) → b ≡ [] → Converting f [] l ≡ Converting f b l
-only-between f l [] e = refl
-only-between f l (x ∷ xs) e = cc
-
-same-conversion : (f g k l : Spec) (b d : List Spec) → b ≡ [] → d ≡ [] → words_of (Converting f b l) ≡ words_of (Converting g d k) → Converting f b l ≡ Converting g d k
-same-conversion f g k l [] [] e h w =
-    let first : word_of f ≡ word_of g = cc in
-    let last : word_of l ≡ word_of k = cc in
-    ap (λ (s : Spec). Converting s [] l) (word_of-same f g first) ∙ ap (λ (s : Spec). Converting g [] s) (word_of-same l k last)
-same-conversion f g k l (x ∷ xs) d e h w = cc
-same-conversion f g k l [] (x ∷ xs) e h w = cc
-
-no-listing : (f l s : Spec) (b : List Spec) (traced : Bool) → b ≡ [] → words_of (Converting f b l) ≡ words_of (Listing traced s) → ⊥
-no-listing f l s [] traced e w = cc
-no-listing f l s (x ∷ xs) traced e w = cc
-
-abbrev first_byte : List (List ℕ) → ℕ
-first_byte [] = 0
-first_byte ([] ∷ words) = 0
-first_byte ((b ∷ bs) ∷ words) = b
-
-same-listing : (s u : Spec) (t v : Bool) → words_of (Listing t s) ≡ words_of (Listing v u) → Listing t s ≡ Listing v u
-same-listing s u true true w = ap (Listing true) (word_of-same s u (second _ _ _ _ w))
-  where
-    second : (a b c d : List ℕ) → a ∷ c ∷ [] ≡ b ∷ d ∷ [] → c ≡ d
-    second a b c d e = cc
-same-listing s u false false w = ap (Listing false) (word_of-same s u (second _ _ _ _ w))
-  where
-    second : (a b c d : List ℕ) → a ∷ c ∷ [] ≡ b ∷ d ∷ [] → c ≡ d
-    second a b c d e = cc
-same-listing s u true false w = (let e : 116 ≡ 99 = ap first_byte w in absurd (omega (arith, e)))
-same-listing s u false true w = (let e : 99 ≡ 116 = ap first_byte w in absurd (omega (arith, e)))
-
-pub one_command : (words : List (List ℕ)) (c d : Command) → Means words c → Means words d → c ≡ d
-one_command words (Converting f b l) (Converting g d k) m n = same-conversion f g k l b d (m.built).1 (n.built).1 (sym m.words_are ∙ n.words_are)
-one_command words (Converting f b l) (Listing t s) m n = absurd (no-listing f l s b t (m.built).1 (sym m.words_are ∙ n.words_are))
-one_command words (Listing t s) (Converting f b l) m n = absurd (no-listing f l s b t (n.built).1 (sym n.words_are ∙ m.words_are))
-one_command words (Listing t s) (Listing v u) m n = same-listing s u t v (sym m.words_are ∙ n.words_are)
-
 wrong : true ≡ false → ⊥
 wrong e = cc
 
-pub ends-words : (status : Status) (words : List (List ℕ)) (limit : ℕ) (left input output : List ℕ) (c : Command) →
-    is_usage status ≡ false → ((d : Command) → Means words d → c ≡ d) → EndsAs c limit left input output status → Ends words limit left input output status
-ends-words Done words limit left input output c u one e = λ d m. subst (λ (x : Command). EndsAs x limit left input output Done) (one d m) e
-ends-words Noted words limit left input output c u one e = λ d m. subst (λ (x : Command). EndsAs x limit left input output Noted) (one d m) e
-ends-words Usage words limit left input output c u one e = absurd (wrong u)
-ends-words ReadFault words limit left input output c u one e = λ d m. subst (λ (x : Command). EndsAs x limit left input output ReadFault) (one d m) e
-ends-words WriteFault words limit left input output c u one e = λ d m. subst (λ (x : Command). EndsAs x limit left input output WriteFault) (one d m) e
-ends-words Cut words limit left input output c u one e = λ d m. subst (λ (x : Command). EndsAs x limit left input output Cut) (one d m) e
-ends-words TooLong words limit left input output c u one e = λ d m. subst (λ (x : Command). EndsAs x limit left input output TooLong) (one d m) e
-ends-words NoMemory words limit left input output c u one e = λ d m. subst (λ (x : Command). EndsAs x limit left input output NoMemory) (one d m) e
+-- statuses are told by their numbers
+
+abbrev status_at : ℕ → Status
+status_at n =
+    if n == 0 then Done else (if n == 1 then Noted else (if n == 2 then Usage else (if n == 3 then Stopped ReadFault else (if n == 4 then Stopped Refused else
+    (if n == 5 then Cut else (if n == 8 then Stopped TooLong else NoMemory))))))
+
+again : (s : Status) → status_at (code_of s) ≡ s
+again Done = refl
+again Noted = refl
+again Usage = refl
+again Cut = refl
+again NoMemory = refl
+again (Stopped ReadFault) = refl
+again (Stopped Refused) = refl
+again (Stopped TooLong) = refl
+
+pub same_status : (s t : Status) → code_of s ≡ code_of t → s ≡ t
+same_status s t e = sym (again s) ∙ (ap status_at e ∙ again t)
+
+pub other_status : (s t : Status) → (code_of s ≡ code_of t → ⊥) → s ≡ t → ⊥
+other_status s t other e = other (ap code_of e)
+
+-- a claim about a status at the end of the input
+at_the_end : (claim : Status → Type 0) → claim Done → claim Noted → claim Cut → (s : Status) → read_all (code_of s) ≡ true → claim s
+at_the_end claim done noted cut Done e = done
+at_the_end claim done noted cut Noted e = noted
+at_the_end claim done noted cut Cut e = cut
+at_the_end claim done noted cut Usage e = absurd (wrong (sym e))
+at_the_end claim done noted cut NoMemory e = absurd (wrong (sym e))
+at_the_end claim done noted cut (Stopped ReadFault) e = absurd (wrong (sym e))
+at_the_end claim done noted cut (Stopped Refused) e = absurd (wrong (sym e))
+at_the_end claim done noted cut (Stopped TooLong) e = absurd (wrong (sym e))
+
+-- what a caller sees of what was read, written and said
+
+with_entry-other : (entries : ℕ → List ℕ) (handle : ℕ) (bytes : List ℕ) (other : ℕ) → (other == handle) ≡ false → with_entry entries handle bytes other ≡ entries other
+with_entry-other entries handle bytes other e = ap (λ (t : Bool). if t then bytes else entries other) e
+
+with_entry-at : (entries : ℕ → List ℕ) (handle : ℕ) (bytes : List ℕ) (other : ℕ) → (other == handle) ≡ true → with_entry entries handle bytes other ≡ bytes
+with_entry-at entries handle bytes other e = ap (λ (t : Bool). if t then bytes else entries other) e
+
+handle-is : (other handle : ℕ) → (other == handle) ≡ true → other ≡ handle
+handle-is other handle e = grind (arith, nat_tests)
+
+behind_all : (xs : List ℕ) → drop (length xs) xs ≡ []
+behind_all xs = ap (drop (length xs)) (sym (append-nil xs)) ∙ drop_at xs [] (length xs) refl
+
+-- what a call did: from a handle it took these bytes, or it wrote these
+abbrev seen_at : (input : List ℕ) (handle : ℕ) → List ℕ
+seen_at input handle = if handle == 0 then input else []
+
+abbrev written_at : (output words : List ℕ) (handle : ℕ) → List ℕ
+written_at output words handle = if handle == 2 then words else (if handle == 1 then output else [])
+
+taken-at : (input output words : List ℕ) (before : Contents) (handle : ℕ) → IsFront input (before.left 0) → taken_off handle before (written_of input output words before) ≡ seen_at input handle
+taken-at input output words before handle f = by_test (handle == 0) refl
+  where
+    by_test : (t : Bool) → (handle == 0) ≡ t → taken_off handle before (written_of input output words before) ≡ seen_at input handle
+    by_test true e =
+        ap (λ (xs : List ℕ). drop (length (before.taken handle)) xs) (with_entry-at before.taken 0 (before.taken 0 ++ take (length input) (before.left 0)) handle e)
+        ∙ (ap (λ (n : ℕ). drop (length (before.taken n)) (before.taken 0 ++ take (length input) (before.left 0))) (handle-is handle 0 e)
+        ∙ (drop_at (before.taken 0) (take (length input) (before.left 0)) (length (before.taken 0)) refl
+        ∙ (ap (take (length input)) f.1 ∙ (take_at input f.0 (length input) refl ∙ sym (ap (λ (t : Bool). if t then input else []) e)))))
+    by_test false e =
+        ap (λ (xs : List ℕ). drop (length (before.taken handle)) xs) (with_entry-other before.taken 0 (before.taken 0 ++ take (length input) (before.left 0)) handle e)
+        ∙ (behind_all (before.taken handle) ∙ sym (ap (λ (t : Bool). if t then input else []) e))
+
+added-at : (input output words : List ℕ) (before : Contents) (handle : ℕ) → added_to handle before (written_of input output words before) ≡ written_at output words handle
+added-at input output words before handle = by_tests (handle == 2) (handle == 1) refl refl
+  where
+    by_tests : (t u : Bool) → (handle == 2) ≡ t → (handle == 1) ≡ u → added_to handle before (written_of input output words before) ≡ written_at output words handle
+    by_tests true u e f =
+        ap (λ (xs : List ℕ). drop (length (before.written handle)) xs) (with_entry-at (with_entry before.written 1 (before.written 1 ++ output)) 2 (before.written 2 ++ words) handle e)
+        ∙ (ap (λ (n : ℕ). drop (length (before.written n)) (before.written 2 ++ words)) (handle-is handle 2 e)
+        ∙ (drop_at (before.written 2) words (length (before.written 2)) refl ∙ sym (ap (λ (t : Bool). if t then words else (if handle == 1 then output else [])) e)))
+    by_tests false true e f =
+        ap (λ (xs : List ℕ). drop (length (before.written handle)) xs)
+        (with_entry-other (with_entry before.written 1 (before.written 1 ++ output)) 2 (before.written 2 ++ words) handle e ∙ with_entry-at before.written 1 (before.written 1 ++ output) handle f)
+        ∙ (ap (λ (n : ℕ). drop (length (before.written n)) (before.written 1 ++ output)) (handle-is handle 1 f)
+        ∙ (drop_at (before.written 1) output (length (before.written 1)) refl
+        ∙ sym (ap (λ (t : Bool). if t then words else (if handle == 1 then output else [])) e ∙ ap (λ (t : Bool). if t then output else []) f)))
+    by_tests false false e f =
+        ap (λ (xs : List ℕ). drop (length (before.written handle)) xs)
+        (with_entry-other (with_entry before.written 1 (before.written 1 ++ output)) 2 (before.written 2 ++ words) handle e ∙ with_entry-other before.written 1 (before.written 1 ++ output) handle f)
+        ∙ (behind_all (before.written handle) ∙ sym (ap (λ (t : Bool). if t then words else (if handle == 1 then output else [])) e ∙ ap (λ (t : Bool). if t then output else []) f))
+
+moved : (input output words : List ℕ) (before : Contents) → IsFront input (before.left 0) → Moved before (written_of input output words before)
+moved input output words before f =
+    record {
+      left = λ handle. left-at handle (handle == 0) refl ∙ ap (λ (xs : List ℕ). xs ++ after.left handle) (sym (taken-at input output words before handle f));
+      taken = λ handle. behind (before.taken handle) (after.taken handle) (taken-front handle (handle == 0) refl);
+      written = λ handle. behind (before.written handle) (after.written handle) (written-front handle (handle == 2) (handle == 1) refl refl);
+    }
+  where
+    after : Contents
+    after = written_of input output words before
+
+    left-at : (handle : ℕ) (t : Bool) → (handle == 0) ≡ t → before.left handle ≡ seen_at input handle ++ after.left handle
+    left-at handle true e =
+        ap before.left (handle-is handle 0 e)
+        ∙ (f.1
+        ∙ (ap (λ (xs : List ℕ). input ++ xs) (sym (ap (drop (length input)) f.1 ∙ drop_at input f.0 (length input) refl))
+        ∙ (ap (λ (xs : List ℕ). input ++ xs) (sym (with_entry-at before.left 0 (drop (length input) (before.left 0)) handle e))
+        ∙ ap (λ (xs : List ℕ). xs ++ after.left handle) (sym (ap (λ (u : Bool). if u then input else []) e)))))
+    left-at handle false e =
+        sym (with_entry-other before.left 0 (drop (length input) (before.left 0)) handle e)
+        ∙ ap (λ (xs : List ℕ). xs ++ after.left handle) (sym (ap (λ (u : Bool). if u then input else []) e))
+
+    behind : (xs ys : List ℕ) → IsFront xs ys → ys ≡ xs ++ drop (length xs) ys
+    behind xs ys g = g.1 ∙ ap (λ zs. xs ++ zs) (sym (ap (drop (length xs)) g.1 ∙ drop_at xs g.0 (length xs) refl))
+
+    taken-front : (handle : ℕ) (t : Bool) → (handle == 0) ≡ t → IsFront (before.taken handle) (after.taken handle)
+    taken-front handle true e = (
+      take (length input) (before.left 0),
+      with_entry-at before.taken 0 (before.taken 0 ++ take (length input) (before.left 0)) handle e
+          ∙ ap (λ (n : ℕ). before.taken n ++ take (length input) (before.left 0)) (sym (handle-is handle 0 e)),
+    )
+    taken-front handle false e = (
+      [],
+      with_entry-other before.taken 0 (before.taken 0 ++ take (length input) (before.left 0)) handle e ∙ sym (append-nil (before.taken handle)),
+    )
+
+    written-front : (handle : ℕ) (t u : Bool) → (handle == 2) ≡ t → (handle == 1) ≡ u → IsFront (before.written handle) (after.written handle)
+    written-front handle true u e f = (
+      words,
+      with_entry-at (with_entry before.written 1 (before.written 1 ++ output)) 2 (before.written 2 ++ words) handle e
+          ∙ ap (λ (n : ℕ). before.written n ++ words) (sym (handle-is handle 2 e)),
+    )
+    written-front handle false true e f = (
+      output,
+      with_entry-other (with_entry before.written 1 (before.written 1 ++ output)) 2 (before.written 2 ++ words) handle e
+          ∙ (with_entry-at before.written 1 (before.written 1 ++ output) handle f ∙ ap (λ (n : ℕ). before.written n ++ output) (sym (handle-is handle 1 f))),
+    )
+    written-front handle false false e f = (
+      [],
+      with_entry-other (with_entry before.written 1 (before.written 1 ++ output)) 2 (before.written 2 ++ words) handle e
+          ∙ (with_entry-other before.written 1 (before.written 1 ++ output) handle f ∙ sym (append-nil (before.written handle))),
+    )
+
+-- the handles of a command
+
+only_reads : (c : Command) (handle : ℕ) → reads_from c handle ≡ false → (handle == 0) ≡ false
+only_reads (Converting tally first between last) handle e = e
+only_reads (Listing traced s) handle e = e
+
+only_writes : (c : Command) (handle : ℕ) → writes_to c handle ≡ false → ((handle == 1) || (handle == 2)) ≡ false
+only_writes (Converting tally first between last) handle e = e
+only_writes (Listing traced s) handle e = e
+
+unread : (input : List ℕ) (handle : ℕ) → (handle == 0) ≡ false → seen_at input handle ≡ []
+unread input handle e = ap (λ (t : Bool). if t then input else []) e
+
+none-read : (input : List ℕ) (handle : ℕ) → input ≡ [] → seen_at input handle ≡ []
+none-read input handle e = ap (λ (xs : List ℕ). seen_at xs handle) e ∙ by_test (handle == 0)
+  where
+    by_test : (t : Bool) → ◌≡◌ {A = List ℕ} (if t then [] else []) []
+    by_test true = refl
+    by_test false = refl
+
+unwritten : (output words : List ℕ) (handle : ℕ) → ((handle == 1) || (handle == 2)) ≡ false → written_at output words handle ≡ []
+unwritten output words handle e = by_tests (handle == 1) (handle == 2) e
+  where
+    by_tests : (t u : Bool) → (t || u) ≡ false → (if u then words else (if t then output else [])) ≡ []
+    by_tests true u e = absurd (wrong e)
+    by_tests false true e = absurd (wrong e)
+    by_tests false false e = refl
+
+none-written : (output words : List ℕ) (handle : ℕ) → output ≡ [] → (handle == 2) ≡ false → written_at output words handle ≡ []
+none-written output words handle e f =
+    ap (λ (xs : List ℕ). written_at xs words handle) e ∙ (ap (λ (t : Bool). if t then words else (if handle == 1 then [] else [])) f ∙ by_test (handle == 1))
+  where
+    by_test : (t : Bool) → ◌≡◌ {A = List ℕ} (if t then [] else []) []
+    by_test true = refl
+    by_test false = refl
+
+-- what the caller sees of what was done, the text said behind it
+
+written-behind : (input output tally text : List ℕ) (before : Contents) → after_write 2 text (written_of input output tally before) ≡ written_of input output (tally ++ text) before
+written-behind input output tally text before = after_write-twice 2 tally text (after_write 1 output (after_read 0 (length input) before))
+
+pub answered : (words : List (List ℕ)) (limit : ℕ) (before mid after : Contents) (reads reads_mid faults faults_mid faults_now : ℕ) (status : Status) (answer : ℕ) (text : List ℕ) →
+    answer ≡ code_of status → RanWords words limit before mid status → Faulted reads reads_mid faults faults_mid status → after ≡ after_write 2 text mid →
+    Says (Rose faults_mid faults_now) text (text_of status) → (text ≡ text_of status → faults_now ≡ faults_mid) →
+    Answered words limit before after faults faults_now answer
+answered words limit before mid after reads reads_mid faults faults_mid faults_now status answer text number r fault wrote says told =
+    subst (λ (c : Contents). Answered words limit before c faults faults_now answer) (sym all)
+    (record {
+      moved = moved r.input r.output (r.tally ++ text) before r.front;
+      status = status;
+      number = number;
+      tally = r.tally;
+      said = text;
+      nothing = λ e.
+          let n = r.nothing e in
+          record {
+            keeps = record {
+              unread = λ handle f. taken-at r.input r.output (r.tally ++ text) before handle r.front ∙ none-read r.input handle n.0;
+              unwritten = λ handle f. added-at r.input r.output (r.tally ++ text) before handle ∙ none-written r.output (r.tally ++ text) handle n.1 f;
+            };
+            no_tally = n.2;
+          };
+      did = λ c m.
+          record {
+            keeps = record {
+              unread = λ handle f. taken-at r.input r.output (r.tally ++ text) before handle r.front ∙ unread r.input handle (only_reads c handle f);
+              unwritten = λ handle f. added-at r.input r.output (r.tally ++ text) before handle ∙ unwritten r.output (r.tally ++ text) handle (only_writes c handle f);
+            };
+            within = subst (λ (xs : List ℕ). length xs ≤ limit) (sym input) r.within;
+            ends =
+                subst (λ (xs : List ℕ). EndsAs c limit (before.left 0) xs (added_to 1 before all_written) r.tally status) (sym input)
+                (subst (λ (xs : List ℕ). EndsAs c limit (before.left 0) r.input xs r.tally status) (sym output) (r.ends c m));
+          };
+      on_error = added-at r.input r.output (r.tally ++ text) before 2;
+      text = says-earlier faults faults_mid faults_now status text reads reads_mid fault says;
+      untold = λ other all_said. told all_said ∙ fault.unwritten other;
+    })
+  where
+    all_written : Contents
+    all_written = written_of r.input r.output (r.tally ++ text) before
+
+    all : after ≡ all_written
+    all = wrote ∙ (ap (after_write 2 text) r.contents ∙ written-behind r.input r.output r.tally text before)
+
+    input : taken_off 0 before all_written ≡ r.input
+    input = taken-at r.input r.output (r.tally ++ text) before 0 r.front
+
+    output : added_to 1 before all_written ≡ r.output
+    output = added-at r.input r.output (r.tally ++ text) before 1
+
+    -- how many faults a status tells: one where writing was refused
+    by_told : (s : Status) → (s ≡ Stopped Refused) ⊎ (faults_told s ≡ 0)
+    by_told Done = inr refl
+    by_told Noted = inr refl
+    by_told Usage = inr refl
+    by_told Cut = inr refl
+    by_told NoMemory = inr refl
+    by_told (Stopped ReadFault) = inr refl
+    by_told (Stopped Refused) = inl refl
+    by_told (Stopped TooLong) = inr refl
+
+    rose-more : (before mid now : ℕ) (s : Status) (reads reads_mid : ℕ) → Faulted reads reads_mid before mid s → Rose mid now → Rose (before + faults_told s) now
+    rose-more before mid now s reads reads_mid f r = elim (by_told s) [
+      | inl e ↦ (let one : faults_told s ≡ 1 = ap faults_told e in omega (arith, r, f.write e, one))
+      | inr none ↦ omega (arith, r, f.writes_later, none)
+    ]
+
+    says-earlier : (before mid now : ℕ) (s : Status) (text : List ℕ) (reads reads_mid : ℕ) → Faulted reads reads_mid before mid s → Says (Rose mid now) text (text_of s) →
+        Says (Rose (before + faults_told s) now) text (text_of s)
+    says-earlier before mid now s text reads reads_mid f says =
+        record { front = says.front; all = elim says.all [ inl e ↦ inl e | inr r ↦ inr (rose-more before mid now s reads reads_mid f r) ] }
+
+-- a command that was carried out is what its words mean
 
 pub ran-words : (c : Command) (words : List (List ℕ)) (limit : ℕ) (before after : Contents) (status : Status) →
-    is_usage status ≡ false → Means words c → Ran c limit before after status → RanWords words limit before after status
-ran-words c words limit before after status u m r =
+    Means words c → MayAnswer c status → Ran c limit before after status → RanWords words limit before after status
+ran-words c words limit before after status m may r =
     record {
       input = r.input;
       output = r.output;
+      tally = r.tally;
       contents = r.contents;
       front = r.front;
+      nothing = λ e. absurd (subst (MayAnswer c) e may);
       within = r.within;
-      ends = ends-words status words limit (before.left 0) r.input r.output c u (λ d n. one_command words c d m n) r.ends;
+      ends = λ d n. subst (λ (x : Command). EndsAs x limit (before.left 0) r.input r.output r.tally status) (one_command words c d m n) r.ends;
     }
 
--- what a caller sees of what was read, written and said
-taken-changed : (input output words : List ℕ) (before : Contents) → IsFront input (before.left 0) → taken_off 0 before (changed input output words before) ≡ input
-taken-changed input output words before f =
-    drop_at (before.taken 0) (take (length input) (before.left 0)) (length (before.taken 0)) refl
-    ∙ (ap (take (length input)) f.1 ∙ take_at input f.0 (length input) refl)
-
-output-changed : (input output words : List ℕ) (before : Contents) → added_to 1 before (changed input output words before) ≡ output
-output-changed input output words before = drop_at (before.written 1) output (length (before.written 1)) refl
-
-words-changed : (input output words : List ℕ) (before : Contents) → added_to 2 before (changed input output words before) ≡ words
-words-changed input output words before = drop_at (before.written 2) words (length (before.written 2)) refl
-
-pub answered : (words : List (List ℕ)) (limit : ℕ) (before mid after : Contents) (faults faults_mid faults_now : ℕ) (status : Status) (answer : ℕ) (text : List ℕ) →
-    answer ≡ code_of status → RanWords words limit before mid status → after ≡ after_write 2 text mid →
-    Says (Rose (faults + faults_told status) faults_now) text (text_of status) →
-    ((status ≡ WriteFault → ⊥) → faults_mid ≡ faults) → (text ≡ text_of status → faults_now ≡ faults_mid) →
-    Answered words limit before after faults faults_now answer
-answered words limit before mid after faults faults_mid faults_now status answer text number r wrote says told whole =
-    let all : after ≡ changed r.input r.output text before = wrote ∙ ap (after_write 2 text) r.contents in
-    let input : taken_off 0 before after ≡ r.input = ap (taken_off 0 before) all ∙ taken-changed r.input r.output text before r.front in
-    let output : added_to 1 before after ≡ r.output = ap (added_to 1 before) all ∙ output-changed r.input r.output text before in
-    let spoken : added_to 2 before after ≡ text = ap (added_to 2 before) all ∙ words-changed r.input r.output text before in
+pub ran-usage : (words : List (List ℕ)) (limit : ℕ) (before : Contents) → ((c : Command) → Means words c → ⊥) → RanWords words limit before before Usage
+ran-usage words limit before none =
     record {
-      contents =
-          all
-          ∙ (ap (λ (xs : List ℕ). changed xs r.output text before) (sym input)
-          ∙ (ap (λ (xs : List ℕ). changed (taken_off 0 before after) xs text before) (sym output)
-          ∙ ap (λ (xs : List ℕ). changed (taken_off 0 before after) (added_to 1 before after) xs before) (sym spoken)));
-      front = subst (λ (xs : List ℕ). IsFront xs (before.left 0)) (sym input) r.front;
-      within = subst (λ (xs : List ℕ). length xs ≤ limit) (sym input) r.within;
-      status = status;
-      number = number;
-      ends =
-          subst (λ (xs : List ℕ). Ends words limit (before.left 0) xs (added_to 1 before after) status) (sym input)
-          (subst (λ (xs : List ℕ). Ends words limit (before.left 0) r.input xs status) (sym output) r.ends);
-      text = subst (λ (xs : List ℕ). Says (Rose (faults + faults_told status) faults_now) xs (text_of status)) (sym spoken) says;
-      untold = λ other all_said. whole (sym spoken ∙ all_said) ∙ told other;
+      input = [];
+      output = [];
+      tally = [];
+      contents = sym (after_write-none 2 (after_write 1 [] (after_read 0 0 before)) ∙ (after_write-none 1 (after_read 0 0 before) ∙ after_read-none 0 before));
+      front = (before.left 0, refl);
+      nothing = λ e. (refl, refl, refl);
+      within = omega arith;
+      ends = λ c m. absurd (none c m);
     }
+
+pub may-words : (c : Command) (words : List (List ℕ)) (status : Status) → Means words c → MayAnswer c status → MayAnswerWords words status
+may-words c words status m may = record { usage = λ e. absurd (subst (MayAnswer c) e may); other = λ not_usage. (c, m, may) }
 
 -- what the answer says of a command
-pub done : (words : List (List ℕ)) (limit : ℕ) (before after : Contents) (faults faults_now answer : ℕ) (c : Command) →
-    answer ≡ 0 → Means words c → Answered words limit before after faults faults_now answer →
-    EndsAs c limit (before.left 0) (taken_off 0 before after) (added_to 1 before after) Done
-done words limit before after faults faults_now answer c zero m a = by_status a.status (sym a.number ∙ zero) a.ends
-  where
-    by_status : (status : Status) → code_of status ≡ 0 → Ends words limit (before.left 0) (taken_off 0 before after) (added_to 1 before after) status →
-        EndsAs c limit (before.left 0) (taken_off 0 before after) (added_to 1 before after) Done
-    by_status Done e ends = ends c m
-    by_status Noted e ends = absurd (omega (arith, e))
-    by_status Usage e ends = absurd (omega (arith, e))
-    by_status ReadFault e ends = absurd (omega (arith, e))
-    by_status WriteFault e ends = absurd (omega (arith, e))
-    by_status Cut e ends = absurd (omega (arith, e))
-    by_status TooLong e ends = absurd (omega (arith, e))
-    by_status NoMemory e ends = absurd (omega (arith, e))
 
-pub noted : (words : List (List ℕ)) (limit : ℕ) (before after : Contents) (faults faults_now answer : ℕ) (c : Command) →
-    answer ≡ 1 → Means words c → Answered words limit before after faults faults_now answer →
-    EndsAs c limit (before.left 0) (taken_off 0 before after) (added_to 1 before after) Noted
-noted words limit before after faults faults_now answer c one m a = by_status a.status (sym a.number ∙ one) a.ends
-  where
-    by_status : (status : Status) → code_of status ≡ 1 → Ends words limit (before.left 0) (taken_off 0 before after) (added_to 1 before after) status →
-        EndsAs c limit (before.left 0) (taken_off 0 before after) (added_to 1 before after) Noted
-    by_status Done e ends = absurd (omega (arith, e))
-    by_status Noted e ends = ends c m
-    by_status Usage e ends = absurd (omega (arith, e))
-    by_status ReadFault e ends = absurd (omega (arith, e))
-    by_status WriteFault e ends = absurd (omega (arith, e))
-    by_status Cut e ends = absurd (omega (arith, e))
-    by_status TooLong e ends = absurd (omega (arith, e))
-    by_status NoMemory e ends = absurd (omega (arith, e))
+pub ends-at_status : (words : List (List ℕ)) (limit : ℕ) (before after : Contents) (faults faults_now answer : ℕ) (c : Command) (status : Status) →
+    answer ≡ code_of status → Means words c → (a : Answered words limit before after faults faults_now answer) →
+    EndsAs c limit (before.left 0) (taken_off 0 before after) (added_to 1 before after) a.tally status
+ends-at_status words limit before after faults faults_now answer c status e m a =
+    subst (EndsAs c limit (before.left 0) (taken_off 0 before after) (added_to 1 before after) a.tally) (same_status a.status status (sym a.number ∙ e)) (a.did c m).ends
 
 pub went_through : (words : List (List ℕ)) (limit : ℕ) (before after : Contents) (faults faults_now answer : ℕ) (c : Command) →
-    read_all answer ≡ true → Means words c → Answered words limit before after faults faults_now answer →
-    WentThrough c limit (before.left 0) (taken_off 0 before after) (added_to 1 before after)
-went_through words limit before after faults faults_now answer c all m a = by_status a.status (sym (ap read_all a.number) ∙ all) a.ends
-  where
-    by_status : (status : Status) → read_all (code_of status) ≡ true → Ends words limit (before.left 0) (taken_off 0 before after) (added_to 1 before after) status →
-        WentThrough c limit (before.left 0) (taken_off 0 before after) (added_to 1 before after)
-    by_status Done e ends = (ends c m).0
-    by_status Noted e ends = (ends c m).0
-    by_status Usage e ends = absurd (wrong (sym e))
-    by_status ReadFault e ends = absurd (wrong (sym e))
-    by_status WriteFault e ends = absurd (wrong (sym e))
-    by_status Cut e ends = (ends c m).0
-    by_status TooLong e ends = absurd (wrong (sym e))
-    by_status NoMemory e ends = absurd (wrong (sym e))
+    read_all answer ≡ true → Means words c → (a : Answered words limit before after faults faults_now answer) →
+    WentThrough c limit (before.left 0) (taken_off 0 before after) (added_to 1 before after) a.tally
+went_through words limit before after faults faults_now answer c all m a =
+    at_the_end
+    (λ s. EndsAs c limit (before.left 0) (taken_off 0 before after) (added_to 1 before after) a.tally s → WentThrough c limit (before.left 0) (taken_off 0 before after) (added_to 1 before after) a.tally)
+    (λ ends. ends.0) (λ ends. ends.0) (λ ends. ends.0) a.status (sym (ap read_all a.number) ∙ all) (a.did c m).ends
+
+is_whole-of : (c : Command) (s : Spec) (input : List ℕ) → ReadsOne c s → is_whole c input ≡ whole s input
+is_whole-of (Converting tally first between last) s input e = ap (λ (t : Spec). whole t input) (sym e)
+is_whole-of (Listing traced t) s input e = ap (λ (u : Spec). whole u input) (sym e)
 
 -- at the end, it is 5 exactly where the input stops inside a packet
-pub cut-at_end : (words : List (List ℕ)) (limit : ℕ) (before after : Contents) (faults faults_now answer : ℕ) (c : Command) →
-    read_all answer ≡ true → Means words c → Answered words limit before after faults faults_now answer → (answer ≡ 5) ↔ (whole (source_of c) (before.left 0) ≡ false)
-cut-at_end words limit before after faults faults_now answer c all m a =
-    subst (λ (n : ℕ). (n ≡ 5) ↔ (whole (source_of c) (before.left 0) ≡ false)) (sym a.number) (by_status a.status (sym (ap read_all a.number) ∙ all) a.ends)
+pub cut-at_end : (words : List (List ℕ)) (limit : ℕ) (before after : Contents) (faults faults_now answer : ℕ) (c : Command) (s : Spec) → ReadsOne c s →
+    read_all answer ≡ true → Means words c → (a : Answered words limit before after faults faults_now answer) → (answer ≡ 5) ↔ (whole s (before.left 0) ≡ false)
+cut-at_end words limit before after faults faults_now answer c s reads all m a =
+    subst (λ (n : ℕ). (n ≡ 5) ↔ (whole s (before.left 0) ≡ false)) (sym a.number)
+    (at_the_end
+    (λ t. EndsAs c limit (before.left 0) (taken_off 0 before after) (added_to 1 before after) a.tally t → (code_of t ≡ 5) ↔ (whole s (before.left 0) ≡ false))
+    (λ ends. (λ n. absurd (omega (arith, n)), λ h. absurd (wrong (sym (ends.1) ∙ cut h))))
+    (λ ends. (λ n. absurd (omega (arith, n)), λ h. absurd (wrong (sym (ends.1) ∙ cut h))))
+    (λ ends. (λ n. sym same ∙ ends.1, λ h. refl))
+    a.status (sym (ap read_all a.number) ∙ all) (a.did c m).ends)
   where
-    is_whole : whole (source_of c) (taken_off 0 before after) ≡ true → before.left 0 ≡ taken_off 0 before after → whole (source_of c) (before.left 0) ≡ false → ⊥
-    is_whole w same h = wrong (sym w ∙ (sym (ap (whole (source_of c)) same) ∙ h))
+    went : WentThrough c limit (before.left 0) (taken_off 0 before after) (added_to 1 before after) a.tally
+    went = went_through words limit before after faults faults_now answer c all m a
 
-    by_status : (status : Status) → read_all (code_of status) ≡ true → Ends words limit (before.left 0) (taken_off 0 before after) (added_to 1 before after) status →
-        (code_of status ≡ 5) ↔ (whole (source_of c) (before.left 0) ≡ false)
-    by_status Done e ends = (λ n. absurd (omega (arith, n)), λ h. absurd (is_whole (ends c m).1 ((ends c m).0).all h))
-    by_status Noted e ends = (λ n. absurd (omega (arith, n)), λ h. absurd (is_whole (ends c m).1 ((ends c m).0).all h))
-    by_status Usage e ends = absurd (wrong (sym e))
-    by_status ReadFault e ends = absurd (wrong (sym e))
-    by_status WriteFault e ends = absurd (wrong (sym e))
-    by_status Cut e ends = (λ n. ap (whole (source_of c)) ((ends c m).0).all ∙ (ends c m).1, λ h. refl)
-    by_status TooLong e ends = absurd (wrong (sym e))
-    by_status NoMemory e ends = absurd (wrong (sym e))
+    same : is_whole c (taken_off 0 before after) ≡ whole s (before.left 0)
+    same = ap (is_whole c) (sym went.all) ∙ is_whole-of c s (before.left 0) reads
+
+    cut : whole s (before.left 0) ≡ false → is_whole c (taken_off 0 before after) ≡ false
+    cut h = same ∙ h
 
 -- an answer that is none of the others comes at the end
 pub reads_all : (words : List (List ℕ)) (limit : ℕ) (before after : Contents) (reads writes : Type 0) (status : Status) (c : Command) →
-    Means words c → is_usage status ≡ false → wants_memory status ≡ false →
-    (code_of status ≡ 3 → reads) → (code_of status ≡ 4 → writes) → (reads → ⊥) → (writes → ⊥) → length (before.left 0) < limit →
+    Means words c → MayAnswerWords words status → may_want_memory c ≡ false →
+    (status ≡ Stopped ReadFault → reads) → (status ≡ Stopped Refused → writes) → (reads → ⊥) → (writes → ⊥) → length (before.left 0) < limit →
     RanWords words limit before after status → read_all (code_of status) ≡ true
-reads_all words limit before after reads writes Done c m u w r f nr nw short ran = refl
-reads_all words limit before after reads writes Noted c m u w r f nr nw short ran = refl
-reads_all words limit before after reads writes Usage c m u w r f nr nw short ran = absurd (wrong u)
-reads_all words limit before after reads writes ReadFault c m u w r f nr nw short ran = absurd (nr (r refl))
-reads_all words limit before after reads writes WriteFault c m u w r f nr nw short ran = absurd (nw (f refl))
-reads_all words limit before after reads writes Cut c m u w r f nr nw short ran = refl
-reads_all words limit before after reads writes TooLong c m u w r f nr nw short ran =
+reads_all words limit before after reads writes Done c m may w r f nr nw short ran = refl
+reads_all words limit before after reads writes Noted c m may w r f nr nw short ran = refl
+reads_all words limit before after reads writes Usage c m may w r f nr nw short ran = absurd (may.usage refl c m)
+reads_all words limit before after reads writes Cut c m may w r f nr nw short ran = refl
+reads_all words limit before after reads writes NoMemory c m may w r f nr nw short ran =
+    let wants = (ran.ends c m).3 in
+    absurd (wrong (sym wants ∙ w))
+reads_all words limit before after reads writes (Stopped ReadFault) c m may w r f nr nw short ran = absurd (nr (r refl))
+reads_all words limit before after reads writes (Stopped Refused) c m may w r f nr nw short ran = absurd (nw (f refl))
+reads_all words limit before after reads writes (Stopped TooLong) c m may w r f nr nw short ran =
     absurd (omega (arith, short, (ran.ends c m).0, ap length (ran.front).1, length-append ran.input (ran.front).0))
-reads_all words limit before after reads writes NoMemory c m u w r f nr nw short ran = absurd (wrong w)
 
 -- of a conversion of a whole input, that is 0
-pub completes : (words : List (List ℕ)) (limit : ℕ) (before after : Contents) (faults faults_now answer : ℕ) (first : Spec) (between : List Spec) (last : Spec) →
-    read_all answer ≡ true → Means words (Converting first between last) → whole first (before.left 0) ≡ true → Answered words limit before after faults faults_now answer → answer ≡ 0
-completes words limit before after faults faults_now answer first between last all m is_whole a = a.number ∙ by_status a.status (sym (ap read_all a.number) ∙ all) a.ends
+pub completes : (words : List (List ℕ)) (limit : ℕ) (before after : Contents) (faults faults_now answer : ℕ) (tally : Bool) (first : Spec) (between : List Spec) (last : Spec) →
+    read_all answer ≡ true → Means words (Converting tally first between last) → whole first (before.left 0) ≡ true → Answered words limit before after faults faults_now answer → answer ≡ 0
+completes words limit before after faults faults_now answer tally first between last all m is a =
+    a.number
+    ∙ at_the_end
+    (λ t. EndsAs (Converting tally first between last) limit (before.left 0) (taken_off 0 before after) (added_to 1 before after) a.tally t → code_of t ≡ 0)
+    (λ ends. refl) (λ ends. absurd (ends.2)) (λ ends. absurd (wrong (sym is ∙ (ap (whole first) (ends.0).all ∙ ends.1))))
+    a.status (sym (ap read_all a.number) ∙ all) ((a.did (Converting tally first between last) m).ends)
+
+-- statuses that only some commands have
+
+pub means-noted : (words : List (List ℕ)) (c : Command) → Means words c → answers_notes c ≡ true → (s : Spec) × Means words (Listing false s)
+means-noted words (Converting tally first between last) m e = absurd (wrong (sym e))
+means-noted words (Listing true s) m e = absurd (wrong (sym e))
+means-noted words (Listing false s) m e = (s, m)
+
+pub is_canonical : (first : Spec) (between : List Spec) (last : Spec) (read written : List ℕ) → last ≡ Din → written ≡ through first between last read → through Din [] Din written ≡ written
+is_canonical first between last read written byte_line e =
+    let same : written ≡ through first between Din read = e ∙ ap (λ (s : Spec). through first between s read) byte_line in
+    ap (through Din [] Din) same ∙ (through-canonical first between read ∙ sym same)
+
+pub usage_only : (words : List (List ℕ)) (status : Status) (answer : ℕ) → answer ≡ code_of status → MayAnswerWords words status → (answer ≡ 2) ↔ ((c : Command) → Means words c → ⊥)
+usage_only words status answer number may = (
+  λ two. may.usage (same_status status Usage (sym number ∙ two)),
+  λ none. number ∙ by_status status may none,
+)
   where
-    by_status : (status : Status) → read_all (code_of status) ≡ true → Ends words limit (before.left 0) (taken_off 0 before after) (added_to 1 before after) status → code_of status ≡ 0
-    by_status Done e ends = refl
-    by_status Noted e ends = absurd ((ends (Converting first between last) m).2)
-    by_status Usage e ends = absurd (wrong (sym e))
-    by_status ReadFault e ends = absurd (wrong (sym e))
-    by_status WriteFault e ends = absurd (wrong (sym e))
-    by_status Cut e ends =
-        let w = ends (Converting first between last) m in
-        absurd (wrong (sym is_whole ∙ (ap (whole first) (w.0).all ∙ w.1)))
-    by_status TooLong e ends = absurd (wrong (sym e))
-    by_status NoMemory e ends = absurd (wrong (sym e))
+    meant : (s : Status) → MayAnswerWords words s → ((c : Command) → Means words c → ⊥) → (s ≡ Usage → ⊥) → ⊥
+    meant s may none other = let m = may.other other in none m.0 m.1
 
--- a fault of the text is one more than the status tells
-rose-more : (reads reads_mid before mid now : ℕ) (status : Status) → before ≤ mid → HasFault reads reads_mid before mid status → Rose mid now →
-    Rose (before + faults_told status) now
-rose-more reads reads_mid before mid now WriteFault le f r = omega (arith, f, r)
-rose-more reads reads_mid before mid now Done le f r = omega (arith, r)
-rose-more reads reads_mid before mid now Noted le f r = omega (arith, r)
-rose-more reads reads_mid before mid now Usage le f r = omega (arith, r)
-rose-more reads reads_mid before mid now ReadFault le f r = omega (arith, r)
-rose-more reads reads_mid before mid now Cut le f r = omega (arith, r)
-rose-more reads reads_mid before mid now TooLong le f r = omega (arith, r)
-rose-more reads reads_mid before mid now NoMemory le f r = omega (arith, r)
+    not_stopped : (stop : Stop) → Stopped stop ≡ Usage → ⊥
+    not_stopped stop e = cc
 
-pub says-earlier : (reads reads_mid before mid now : ℕ) (status : Status) (words text : List ℕ) → before ≤ mid → HasFault reads reads_mid before mid status →
-    Says (Rose mid now) words text → Says (Rose (before + faults_told status) now) words text
-says-earlier reads reads_mid before mid now status words text le f s =
-    record { front = s.front; all = elim s.all [ inl e ↦ inl e | inr r ↦ inr (rose-more reads reads_mid before mid now status le f r) ] }
+    by_status : (s : Status) → MayAnswerWords words s → ((c : Command) → Means words c → ⊥) → code_of s ≡ 2
+    by_status Usage may none = refl
+    by_status Done may none = absurd (meant Done may none (other_status Done Usage (λ e. omega (arith, e))))
+    by_status Noted may none = absurd (meant Noted may none (other_status Noted Usage (λ e. omega (arith, e))))
+    by_status Cut may none = absurd (meant Cut may none (other_status Cut Usage (λ e. omega (arith, e))))
+    by_status NoMemory may none = absurd (meant NoMemory may none (other_status NoMemory Usage (λ e. omega (arith, e))))
+    by_status (Stopped stop) may none = absurd (meant (Stopped stop) may none (λ e. not_stopped stop e))
 
-pub says-text : (rose : Type 0) (words text other : List ℕ) → text ≡ other → Says rose words text → Says rose words other
-says-text rose words text other same s = subst (λ (t : List ℕ). Says rose words t) same s
+pub is_meant : (words : List (List ℕ)) (status : Status) (answer : ℕ) → answer ≡ code_of status → MayAnswerWords words status → (answer ≡ 2 → ⊥) → (c : Command) × Means words c
+is_meant words status answer number may other = let m = may.other (λ e. other (number ∙ ap code_of e)) in (m.0, m.1)
 
-pub not_usage : (status : Status) → (status ≡ Usage → ⊥) → is_usage status ≡ false
-not_usage Done h = refl
-not_usage Noted h = refl
-not_usage Usage h = absurd (h refl)
-not_usage ReadFault h = refl
-not_usage WriteFault h = refl
-not_usage Cut h = refl
-not_usage TooLong h = refl
-not_usage NoMemory h = refl
+-- the same of desks that tell nothing
 
-pub read_fault : (reads reads_mid reads_now writes writes_mid : ℕ) (status : Status) → reads_now ≡ reads_mid → HasFault reads reads_mid writes writes_mid status → code_of status ≡ 3 → Rose reads reads_now
-read_fault reads reads_mid reads_now writes writes_mid ReadFault same f e = subst (λ (n : ℕ). Rose reads n) (sym same) f
-read_fault reads reads_mid reads_now writes writes_mid Done same f e = absurd (omega (arith, e))
-read_fault reads reads_mid reads_now writes writes_mid Noted same f e = absurd (omega (arith, e))
-read_fault reads reads_mid reads_now writes writes_mid Usage same f e = absurd (omega (arith, e))
-read_fault reads reads_mid reads_now writes writes_mid WriteFault same f e = absurd (omega (arith, e))
-read_fault reads reads_mid reads_now writes writes_mid Cut same f e = absurd (omega (arith, e))
-read_fault reads reads_mid reads_now writes writes_mid TooLong same f e = absurd (omega (arith, e))
-read_fault reads reads_mid reads_now writes writes_mid NoMemory same f e = absurd (omega (arith, e))
+pub read_faults : (reads reads_mid reads_now writes writes_mid : ℕ) (status : Status) (answer : ℕ) → answer ≡ code_of status → reads_now ≡ reads_mid → Faulted reads reads_mid writes writes_mid status →
+    (answer ≡ 3 → Rose reads reads_now) × ((answer ≡ 3 → ⊥) → reads_now ≡ reads)
+read_faults reads reads_mid reads_now writes writes_mid status answer number same f = (
+  λ three. subst (λ (n : ℕ). Rose reads n) (sym same) (f.read (same_status status (Stopped ReadFault) (sym number ∙ three))),
+  λ other. same ∙ f.unread (λ e. other (number ∙ ap code_of e)),
+)
 
-pub write_fault : (reads reads_mid writes writes_mid writes_now : ℕ) (status : Status) → writes_mid ≤ writes_now → HasFault reads reads_mid writes writes_mid status → code_of status ≡ 4 → Rose writes writes_now
-write_fault reads reads_mid writes writes_mid writes_now WriteFault le f e = omega (arith, f)
-write_fault reads reads_mid writes writes_mid writes_now Done le f e = absurd (omega (arith, e))
-write_fault reads reads_mid writes writes_mid writes_now Noted le f e = absurd (omega (arith, e))
-write_fault reads reads_mid writes writes_mid writes_now Usage le f e = absurd (omega (arith, e))
-write_fault reads reads_mid writes writes_mid writes_now ReadFault le f e = absurd (omega (arith, e))
-write_fault reads reads_mid writes writes_mid writes_now Cut le f e = absurd (omega (arith, e))
-write_fault reads reads_mid writes writes_mid writes_now TooLong le f e = absurd (omega (arith, e))
-write_fault reads reads_mid writes writes_mid writes_now NoMemory le f e = absurd (omega (arith, e))
+pub write_fault : (reads reads_mid writes writes_mid writes_now : ℕ) (status : Status) (answer : ℕ) → answer ≡ code_of status → writes_mid ≤ writes_now → Faulted reads reads_mid writes writes_mid status →
+    answer ≡ 4 → Rose writes writes_now
+write_fault reads reads_mid writes writes_mid writes_now status answer number later f four =
+    omega (arith, f.write (same_status status (Stopped Refused) (sym number ∙ four)), later)
+
+pub no_write_fault : (reads reads_mid writes writes_mid writes_now : ℕ) (status : Status) (answer : ℕ) → answer ≡ code_of status → (text_of status ≡ [] → writes_now ≡ writes_mid) →
+    Faulted reads reads_mid writes writes_mid status → (answer ≡ 0) ⊎ (answer ≡ 1) → writes_now ≡ writes
+no_write_fault reads reads_mid writes writes_mid writes_now status answer number quiet f e = elim e [
+  | inl zero ↦ by_status Done (same_status status Done (sym number ∙ zero)) refl (λ h. omega (arith, h))
+  | inr one ↦ by_status Noted (same_status status Noted (sym number ∙ one)) refl (λ h. omega (arith, h))
+]
+  where
+    by_status : (s : Status) → status ≡ s → text_of s ≡ [] → (code_of s ≡ 4 → ⊥) → writes_now ≡ writes
+    by_status s same none other = quiet (ap text_of same ∙ none) ∙ f.unwritten (λ e. other (ap code_of (sym same ∙ e)))
+
+pub wants_memory : (words : List (List ℕ)) (status : Status) (answer : ℕ) → answer ≡ code_of status → MayAnswerWords words status → answer ≡ 9 →
+    (c : Command) × Means words c × (may_want_memory c ≡ true)
+wants_memory words status answer number may nine =
+    let same = same_status status NoMemory (sym number ∙ nine) in
+    let m = may.other (other_status status Usage (λ e. omega (arith, number, nine, e))) in
+    (m.0, m.1, subst (MayAnswer m.0) same m.2)
+
+pub noted_alone : (words : List (List ℕ)) (status : Status) (answer : ℕ) → answer ≡ code_of status → MayAnswerWords words status → answer ≡ 1 → (s : Spec) × Means words (Listing false s)
+noted_alone words status answer number may one =
+    let same = same_status status Noted (sym number ∙ one) in
+    let m = may.other (other_status status Usage (λ e. omega (arith, number, one, e))) in
+    means-noted words m.0 m.1 (subst (MayAnswer m.0) same m.2)

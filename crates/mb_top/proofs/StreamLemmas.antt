@@ -1,19 +1,23 @@
 -- A command on its way, over a desk that tells its contents.
-use Rattle.std.proofs.Common.{◌≡◌, Bool, IsTrue, ℕ, ◌+◌, ◌-◌, ◌<◌, ◌≤◌, true, false, not, List, ◌++◌, length, take, drop, refl, sym, ◌∙◌, ap, subst, append_assoc, arith, length-append}
+use Rattle.std.proofs.Common.{◌≡◌, Bool, IsTrue, ℕ, ◌+◌, ◌-◌, ◌<◌, ◌≤◌, true, false, not, List, ◌++◌, [], map, length, take, drop, refl, inl, inr, sym, ◌∙◌, ap, subst, append_assoc, arith, length-append}
 use Rattle.std.proofs.lemmas.List.{append-nil, take-append-drop, drop_at, length-take-le, take-append-le}
 use Rattle.mb_outside.specs.Contents.{Contents, Gives, after_read, after_write}
-use Rattle.mb_outside.specs.ContentsLaws.{after_read-none, after_read-twice, after_write-twice}
-use Rattle.mb_outside.specs.Taking.{Wrote}
+use Rattle.mb_outside.specs.ContentsLaws.{after_read-none, after_read-twice, after_write-none, after_write-twice}
 use Rattle.mb_message.specs.Front.{IsFront}
-use Rattle.mb_carrier.specs.Carrier.{whole}
-use Rattle.mb_carrier.proofs.SpecLaws.{front-trans}
+use Rattle.mb_outside.specs.Taking.{Wrote}
+use Rattle.mb_carrier.specs.Lines.{lines_known}
+use Rattle.mb_carrier.proofs.Fronts.{front-then}
+use Rattle.mb_carrier.proofs.GrowSpecs.{grows}
+use Rattle.mb_top.proofs.ChainLemmas.{chain-none}
 use Rattle.mb_top.proofs.JobLemmas.{command-stays, command-closes}
-use Rattle.mb_top.specs.Command.{Command, IsBuilt}
-use Rattle.mb_top.specs.Output.{source_of, output_of, live_output_of}
-use Rattle.mb_top.specs.Job.{JobFed, JobHalted, JobEnded, JobEndHalted, Remarked}
-use Rattle.mb_top.specs.Answer.{Ran, EndsAs, WentThrough, at_end, all_but_last, PIECE}
+use Rattle.mb_words.specs.Command.{Command, Converting, Listing}
+use Rattle.mb_top.specs.Output.{is_whole, live_output_of, tally_of}
+use Rattle.mb_top.specs.Job.{JobFed, JobHalted, JobEnded, JobEndHalted, JobTold, JobTellHalted, Remarked}
+use Rattle.mb_top.specs.Answer.{EndsAs, WentThrough, all_but_last, PIECE}
+use Rattle.mb_top.specs.Ran.{Ran, RanEnd, MayAnswer, at_end, written_of}
 use Rattle.mb_top.specs.declared.status.Status.{Status}
-use Rattle.mb_top.specs.declared.status.Status.TheVariants.{ReadFault, WriteFault, TooLong}
+use Rattle.mb_top.specs.declared.status.Status.TheVariants.{Stopped}
+use Rattle.mb_top.specs.declared.status.Stop.TheVariants.{ReadFault, Refused, TooLong}
 
 not-true : (b : Bool) → true ≡ not b → b ≡ false
 not-true true e = cc
@@ -27,6 +31,20 @@ not-false false e = cc
 pub record SoFar (c : Command) (before now : Contents) (bytes : List ℕ) : Type 0 where
   pub front : IsFront bytes (before.left 0)
   pub contents : now ≡ after_write 1 (live_output_of c bytes) (after_read 0 (length bytes) before)
+
+live-none : (c : Command) → live_output_of c [] ≡ []
+live-none (Converting tally first between last) = chain-none first between last
+live-none (Listing traced s) = ap (lines_known traced s) (grows s).nothing_known
+
+pub so_far-none : (c : Command) (before : Contents) → SoFar c before before []
+so_far-none c before =
+    record {
+      front = (before.left 0, refl);
+      contents =
+          sym
+          (ap (λ (out : List ℕ). after_write 1 out (after_read 0 0 before)) (live-none c)
+          ∙ (after_write-none 1 (after_read 0 0 before) ∙ after_read-none 0 before));
+    }
 
 -- what is left behind a front
 left_behind : (bytes left : List ℕ) → (f : IsFront bytes left) → drop (length bytes) left ≡ f.0
@@ -74,16 +92,20 @@ so_far-more c before old now bytes piece given r wrote beyond =
           ∙ ap (λ (out : List ℕ). after_write 1 out (after_read 0 (length (bytes ++ piece)) before)) (sym beyond)));
     }
 
+-- the same with nothing told of a tally
+quietly : (input output : List ℕ) (before now : Contents) → now ≡ after_write 1 output (after_read 0 (length input) before) → now ≡ written_of input output [] before
+quietly input output before now e = e ∙ sym (after_write-none 2 (after_write 1 output (after_read 0 (length input) before)))
+
 -- between two pieces reading failed, or the limit was reached
 pub ran-read_fault : (c : Command) (limit : ℕ) (before now : Contents) (bytes : List ℕ) →
-    length bytes ≤ limit → SoFar c before now bytes → Ran c limit before now ReadFault
+    length bytes ≤ limit → SoFar c before now bytes → Ran c limit before now (Stopped ReadFault)
 ran-read_fault c limit before now bytes within s =
-    record { input = bytes; output = live_output_of c bytes; contents = s.contents; front = s.front; within = within; ends = refl }
+    record { input = bytes; output = live_output_of c bytes; tally = []; contents = quietly bytes _ before now s.contents; front = s.front; within = within; ends = (refl, refl) }
 
 pub ran-too_long : (c : Command) (limit : ℕ) (before now : Contents) (bytes : List ℕ) →
-    length bytes ≡ limit → SoFar c before now bytes → Ran c limit before now TooLong
+    length bytes ≡ limit → SoFar c before now bytes → Ran c limit before now (Stopped TooLong)
 ran-too_long c limit before now bytes same s =
-    record { input = bytes; output = live_output_of c bytes; contents = s.contents; front = s.front; within = omega (arith, same); ends = (same, refl) }
+    record { input = bytes; output = live_output_of c bytes; tally = []; contents = quietly bytes _ before now s.contents; front = s.front; within = omega (arith, same); ends = (same, refl, refl) }
 
 -- the end was read
 pub at-end : (c : Command) (before old now : Contents) (bytes buffer : List ℕ) (count : ℕ) →
@@ -93,42 +115,70 @@ at-end c before old now bytes buffer count s g none room = (
   (s.front).1 ∙ (ap (λ xs. bytes ++ xs) (sym (left-now c before old bytes s) ∙ g.ends none room) ∙ append-nil bytes),
 )
 
-ran-through : (c : Command) (limit : ℕ) (before old now : Contents) (bytes given : List ℕ) (status : Status) →
-    length bytes < limit → SoFar c before old bytes → now ≡ after_write 1 given old →
-    EndsAs c limit (before.left 0) bytes (live_output_of c bytes ++ given) status → Ran c limit before now status
-ran-through c limit before old now bytes given status below s wrote ends =
+-- what the end did, behind what was written before
+pub ran-end : (c d : Command) (limit : ℕ) (before old now : Contents) (bytes : List ℕ) (status : Status) →
+    d ≡ c → length bytes < limit → SoFar c before old bytes → before.left 0 ≡ bytes → RanEnd d bytes old now status → Ran c limit before now status
+ran-end c d limit before old now bytes status same below s all r =
     record {
       input = bytes;
-      output = live_output_of c bytes ++ given;
-      contents = wrote ∙ (ap (after_write 1 given) s.contents ∙ after_write-twice 1 (live_output_of c bytes) given (after_read 0 (length bytes) before));
+      output = live_output_of c bytes ++ r.output;
+      tally = r.tally;
+      contents =
+          r.contents
+          ∙ ap (after_write 2 r.tally) (ap (after_write 1 r.output) s.contents ∙ after_write-twice 1 (live_output_of c bytes) r.output (after_read 0 (length bytes) before));
       front = s.front;
       within = omega (arith, below);
-      ends = ends;
+      ends =
+          subst (λ (xs : List ℕ). EndsAs c limit xs bytes (live_output_of c bytes ++ r.output) r.tally status) (sym all)
+          (subst (λ (x : Command). EndsAs x limit bytes bytes (live_output_of x bytes ++ r.output) r.tally status) same (r.ends limit below));
     }
 
 -- the answer at the end, by whether the input is cut and whether it was remarked
-ends-at : (c : Command) (limit : ℕ) (left input output : List ℕ) (cut noted : Bool) → WentThrough c limit left input output → cut ≡ not (whole (source_of c) input) →
-    Remarked noted c input → EndsAs c limit left input output (at_end cut noted)
-ends-at c limit left input output true noted w is_cut remarked = (w, not-true (whole (source_of c) input) is_cut)
-ends-at c limit left input output false true w is_cut remarked = (w, not-false (whole (source_of c) input) is_cut, remarked)
-ends-at c limit left input output false false w is_cut remarked = (w, not-false (whole (source_of c) input) is_cut, remarked)
+ends-at : (c : Command) (limit : ℕ) (left input output tally : List ℕ) (cut noted : Bool) → WentThrough c limit left input output tally → cut ≡ not (is_whole c input) →
+    Remarked noted c input → EndsAs c limit left input output tally (at_end cut noted)
+ends-at c limit left input output tally true noted w is_cut remarked = (w, not-true (is_whole c input) is_cut)
+ends-at c limit left input output tally false true w is_cut remarked = (w, not-false (is_whole c input) is_cut, remarked)
+ends-at c limit left input output tally false false w is_cut remarked = (w, not-false (is_whole c input) is_cut, remarked)
 
-pub ran-ended : (c : Command) (limit : ℕ) (before old now : Contents) (bytes : List ℕ) (was : List ℕ → Type 0) (cut noted : Bool) (took : List ℕ → Type 0) (status : Status) →
-    length bytes < limit → SoFar c before old bytes → before.left 0 ≡ bytes → status ≡ at_end cut noted → was bytes → cut ≡ not (whole (source_of c) bytes) →
-    (e : JobEnded c was noted took) → now ≡ after_write 1 e.given old → Ran c limit before now status
-ran-ended c limit before old now bytes was cut noted took status below s all same stands is_cut e wrote =
-    let w : WentThrough c limit (before.left 0) bytes (live_output_of c bytes ++ e.given) = record { all = all; below = below; output_is = sym (e.beyond bytes stands) } in
-    ran-through c limit before old now bytes e.given status below s wrote
-    (subst (λ (x : Status). EndsAs c limit (before.left 0) bytes (live_output_of c bytes ++ e.given) x) (sym same)
-    (ends-at c limit (before.left 0) bytes (live_output_of c bytes ++ e.given) cut noted w is_cut (e.notes bytes stands)))
+pub end-ran : (c d : Command) (before mid now : Contents) (bytes : List ℕ) (was done : List ℕ → Type 0) (cut noted : Bool) (took tells : List ℕ → Type 0) (status : Status) →
+    d ≡ c → status ≡ at_end cut noted → was bytes → cut ≡ not (is_whole c bytes) →
+    (e : JobEnded c was done noted took) → mid ≡ after_write 1 e.given before → (t : JobTold d done tells) → now ≡ after_write 2 t.given mid → RanEnd c bytes before now status
+end-ran c d before mid now bytes was done cut noted took tells status same_command same stands is_cut e wrote t told =
+    record {
+      output = e.given;
+      tally = t.given;
+      contents = told ∙ ap (after_write 2 t.given) wrote;
+      ends = λ limit below.
+          let w : WentThrough c limit bytes bytes (live_output_of c bytes ++ e.given) t.given =
+          record {
+            all = refl;
+            below = below;
+            output_is = sym (e.beyond bytes stands);
+            tally_is = t.tally bytes (e.stands bytes stands) ∙ ap (λ (x : Command). tally_of x bytes) same_command;
+          } in
+          subst (λ (x : Status). EndsAs c limit bytes bytes (live_output_of c bytes ++ e.given) t.given x) (sym same)
+          (ends-at c limit bytes bytes (live_output_of c bytes ++ e.given) t.given cut noted w is_cut (e.notes bytes stands));
+    }
 
-pub cut-at : (d c : Command) (cut : Bool) (bytes : List ℕ) → d ≡ c → cut ≡ not (whole (source_of d) bytes) → cut ≡ not (whole (source_of c) bytes)
-cut-at d c cut bytes same h = h ∙ ap (λ (x : Command). not (whole (source_of x) bytes)) same
+-- notes are answered of a command that answers them
+pub may-end : (c : Command) (was done : List ℕ → Type 0) (cut noted : Bool) (took : List ℕ → Type 0) (status : Status) (bytes : List ℕ) →
+    status ≡ at_end cut noted → was bytes → JobEnded c was done noted took → MayAnswer c status
+may-end c was done cut noted took status bytes same stands e = subst (MayAnswer c) (sym same) (by_tests c cut noted (e.notes bytes stands))
+  where
+    by_tests : (c : Command) (cut noted : Bool) → Remarked noted c bytes → MayAnswer c (at_end cut noted)
+    by_tests c true noted h = tt
+    by_tests c false false h = tt
+    by_tests (Converting tally first between last) false true h = absurd h
+    by_tests (Listing true s) false true h = absurd h
+    by_tests (Listing false s) false true h = refl
+
+pub cut-at : (d c : Command) (cut : Bool) (bytes : List ℕ) → d ≡ c → cut ≡ not (is_whole d bytes) → cut ≡ not (is_whole c bytes)
+cut-at d c cut bytes same h = h ∙ ap (λ (x : Command). not (is_whole x bytes)) same
 
 -- a front of some bytes is written in what is written of them
-live-front : (c : Command) → IsBuilt c → (p bytes : List ℕ) → IsFront p bytes → IsFront (live_output_of c p) (live_output_of c bytes)
-live-front c r p bytes f =
-    let stays = command-stays c r p f.0 in
+live-front : (c : Command) (p bytes : List ℕ) → IsFront p bytes → IsFront (live_output_of c p) (live_output_of c bytes)
+live-front c p bytes f =
+    let stays = command-stays c p f.0 in
     (stays.0, ap (λ bs. live_output_of c bs) f.1 ∙ stays.1)
 
 -- all but the last read
@@ -141,40 +191,64 @@ all_but_last-front bytes piece few =
 all_but_last-own : (bytes : List ℕ) → IsFront (all_but_last PIECE bytes) bytes
 all_but_last-own bytes = (drop (length bytes - PIECE) bytes, sym (take-append-drop (length bytes - PIECE) bytes))
 
+-- what is known of all but the last bytes was written
+known-front : (c : Command) (bytes given : List ℕ) → IsFront (live_output_of c (all_but_last PIECE bytes)) (live_output_of c bytes ++ given)
+known-front c bytes given = front-then _ _ _ (live-front c (all_but_last PIECE bytes) bytes (all_but_last-own bytes)) (given, refl)
+
 -- the end was refused
-pub ran-end_halted : (c : Command) (limit : ℕ) (before old now : Contents) (bytes given : List ℕ) →
-    IsBuilt c → length bytes < limit → SoFar c before old bytes → now ≡ after_write 1 given old →
-    IsFront (live_output_of c bytes ++ given) (output_of c bytes) →
-    Ran c limit before now WriteFault
-ran-end_halted c limit before old now bytes given r below s wrote front =
+pub end-halted : (c : Command) (before now : Contents) (bytes : List ℕ) (was : List ℕ → Type 0) (took : List ℕ → Type 0) →
+    was bytes → (h : JobEndHalted c was took) → now ≡ after_write 1 h.given before → RanEnd c bytes before now (Stopped Refused)
+end-halted c before now bytes was took stands h wrote =
     record {
-      input = bytes;
-      output = live_output_of c bytes ++ given;
-      contents = wrote ∙ (ap (after_write 1 given) s.contents ∙ after_write-twice 1 (live_output_of c bytes) given (after_read 0 (length bytes) before));
-      front = s.front;
-      within = omega (arith, below);
-      ends = (
-        front,
-        front-trans _ _ _ (live-front c r (all_but_last PIECE bytes) bytes (all_but_last-own bytes)) (given, refl),
-      );
+      output = h.given;
+      tally = [];
+      contents = wrote ∙ sym (after_write-none 2 (after_write 1 h.given before));
+      ends = λ limit below. record {
+        front = h.front bytes stands;
+        known = known-front c bytes h.given;
+        tally_front = (tally_of c bytes, refl);
+        behind = inl refl;
+      };
+    }
+
+-- the tally was refused
+pub tell-halted : (c d : Command) (before mid now : Contents) (bytes : List ℕ) (was done : List ℕ → Type 0) (noted : Bool) (took tells : List ℕ → Type 0) →
+    d ≡ c → was bytes → (e : JobEnded c was done noted took) → mid ≡ after_write 1 e.given before → (h : JobTellHalted d done tells) → now ≡ after_write 2 h.given mid →
+    RanEnd c bytes before now (Stopped Refused)
+tell-halted c d before mid now bytes was done noted took tells same_command stands e wrote h told =
+    record {
+      output = e.given;
+      tally = h.given;
+      contents = told ∙ ap (after_write 2 h.given) wrote;
+      ends = λ limit below. record {
+        front = ([], e.beyond bytes stands ∙ sym (append-nil (live_output_of c bytes ++ e.given)));
+        known = known-front c bytes e.given;
+        tally_front = subst (λ (x : Command). IsFront h.given (tally_of x bytes)) same_command (h.front bytes (e.stands bytes stands));
+        behind = inr (sym (e.beyond bytes stands));
+      };
     }
 
 -- a piece was refused
 pub ran-halted : (c : Command) (limit count : ℕ) (before old now : Contents) (bytes piece given : List ℕ) →
-    IsBuilt c → length piece ≡ count → length bytes + count ≤ limit → count ≤ PIECE → Read c before old bytes piece → now ≡ after_write 1 given old →
+    length piece ≡ count → length bytes + count ≤ limit → count ≤ PIECE → Read c before old bytes piece → now ≡ after_write 1 given old →
     IsFront (live_output_of c bytes ++ given) (live_output_of c (bytes ++ piece)) →
-    Ran c limit before now WriteFault
-ran-halted c limit count before old now bytes piece given r size within few s wrote front =
+    Ran c limit before now (Stopped Refused)
+ran-halted c limit count before old now bytes piece given size within few s wrote front =
     record {
       input = bytes ++ piece;
       output = live_output_of c bytes ++ given;
-      contents = wrote ∙ (ap (after_write 1 given) s.contents ∙ after_write-twice 1 (live_output_of c bytes) given (after_read 0 (length (bytes ++ piece)) before));
+      tally = [];
+      contents =
+          quietly (bytes ++ piece) _ before now
+          (wrote ∙ (ap (after_write 1 given) s.contents ∙ after_write-twice 1 (live_output_of c bytes) given (after_read 0 (length (bytes ++ piece)) before)));
       front = s.front;
       within = omega (arith, length-append bytes piece, size);
-      ends = (
-        front-trans _ _ _ front (command-closes c r (bytes ++ piece)),
-        front-trans _ _ _ (live-front c r (all_but_last PIECE (bytes ++ piece)) bytes (all_but_last-front bytes piece (omega (arith, size)))) (given, refl),
-      );
+      ends = record {
+        front = front-then _ _ _ front (command-closes c (bytes ++ piece));
+        known = front-then _ _ _ (live-front c (all_but_last PIECE (bytes ++ piece)) bytes (all_but_last-front bytes piece (omega (arith, size)))) (given, refl);
+        tally_front = (tally_of c (bytes ++ piece), refl);
+        behind = inl refl;
+      };
     }
 
 -- what a job says, at the command that it began with
@@ -183,12 +257,6 @@ fed-at d c was now piece took same f = subst (λ (x : Command). JobFed x was now
 
 pub halted-at : (d c : Command) (was : List ℕ → Type 0) (piece : List ℕ) (took : List ℕ → Type 0) → d ≡ c → JobHalted d was piece took → JobHalted c was piece took
 halted-at d c was piece took same f = subst (λ (x : Command). JobHalted x was piece took) same f
-
-pub ended-at : (d c : Command) (was : List ℕ → Type 0) (noted : Bool) (took : List ℕ → Type 0) → d ≡ c → JobEnded d was noted took → JobEnded c was noted took
-ended-at d c was noted took same f = subst (λ (x : Command). JobEnded x was noted took) same f
-
-pub end_halted-at : (d c : Command) (was : List ℕ → Type 0) (took : List ℕ → Type 0) → d ≡ c → JobEndHalted d was took → JobEndHalted c was took
-end_halted-at d c was took same f = subst (λ (x : Command). JobEndHalted x was took) same f
 
 -- the front of a buffer whose front was filled
 pub piece-is : (filled rest : List ℕ) (count : ℕ) → count ≤ length filled → take count (filled ++ rest) ≡ take count filled

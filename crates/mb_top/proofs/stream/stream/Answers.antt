@@ -1,29 +1,31 @@
-use Rattle.std.proofs.Common.{◌∙◌, arith}
+use Rattle.std.proofs.Common.{◌∙◌, [], refl, arith}
 use Rattle.std.proofs.lemmas.Grind.{common_steps}
-use Rattle.mb_top.proofs.StreamLemmas.{read-piece, at-end, ran-ended, cut-at, ran-end_halted, ran-halted, fed-at, halted-at, ended-at, end_halted-at, piece-is, piece-size, so_far-fed}
+use Rattle.mb_top.proofs.StreamLemmas.{read-piece, at-end, ran-end, ran-halted, fed-at, halted-at, piece-is, piece-size, so_far-none, so_far-fed}
 use Rattle.mb_top.proofs.stream.stream.Goals as goal
 
-pub returns-in-Ok-finish-clause-ran : goal.returns-in-Ok-finish-clause-ran
-returns-in-Ok-finish-clause-ran g c = λ tells.
+pub returns-then-count-eq0-clause-ran : goal.returns-then-count-eq0-clause-ran
+returns-then-count-eq0-clause-ran g c = λ tells.
     let fed = c.pieces.invariant.fed in
     let e = at-end _ _ _ _ fed.0 _ c.in-Ok.count (fed.3 tells) (c.in-Ok.ensures.contents tells) c.if-count-eq0.true (grind (arith, common_steps)) in
-    let ended = ended-at _ _ _ _ _ c.pieces.invariant.command c.in-Ok-finish.ensures.ended in
-    let cut = cut-at _ _ _ fed.0 c.pieces.invariant.command (c.is_cut-cut.ensures fed.0 fed.2) in
-    ran-ended _ _ _ _ _ fed.0 _ _ _ _ _ (omega (arith, fed.1)) e.0 e.1 c.at_end.ensures fed.2 cut ended (ended.took_it.contents_are tells)
+    ran-end _ _ _ _ _ _ fed.0 _ c.pieces.invariant.command (omega (arith, fed.1)) e.0 e.1 (c.end.ensures.ran tells fed.0 fed.2)
 
 pub returns-in-Err-clause-ran : goal.returns-in-Err-clause-ran
 returns-in-Err-clause-ran g c = λ tells.
     let fed = c.pieces.invariant.fed in
-    let e = at-end _ _ _ _ fed.0 _ c.in-Ok.count (fed.3 tells) (c.in-Ok.ensures.contents tells) c.if-count-eq0.true (grind (arith, common_steps)) in
-    let halted = end_halted-at _ _ _ _ c.pieces.invariant.command c.in-Err.ensures.halted in
-    ran-end_halted _ _ _ _ _ fed.0 halted.given c.requires.built (omega (arith, fed.1)) e.0 (halted.took_it.contents_are tells) (halted.front fed.0 fed.2)
-
-pub returns-in-Err-feed-clause-ran : goal.returns-in-Err-feed-clause-ran
-returns-in-Err-feed-clause-ran g c = λ tells.
-    let fed = c.pieces.invariant.fed in
-    let halted = halted-at _ _ _ _ _ c.pieces.invariant.command c.in-Err-feed.ensures.halted in
+    let halted = halted-at _ _ _ _ _ c.pieces.invariant.command c.in-Err.ensures.halted in
     let read = read-piece _ _ _ _ fed.0 _ _ c.in-Ok.count (fed.3 tells) (c.in-Ok.ensures.contents tells) (piece-is _ _ c.in-Ok.count c.in-Ok.ensures.bound) in
-    ran-halted _ _ c.in-Ok.count _ _ _ fed.0 _ halted.given c.requires.built (piece-size _ _ c.in-Ok.count c.in-Ok.ensures.bound) (grind (arith, common_steps, fed.1)) (grind (arith, common_steps)) read (halted.took_it.contents_are tells) (halted.front fed.0 fed.2)
+    ran-halted _ _ c.in-Ok.count _ _ _ fed.0 _ halted.given (piece-size _ _ c.in-Ok.count c.in-Ok.ensures.bound) (grind (arith, common_steps, fed.1)) (grind (arith, common_steps)) read (halted.took_it.contents_are tells) (halted.front fed.0 fed.2)
+
+pub pieces-init : goal.pieces-init
+pieces-init g c =
+    record {
+      within = omega arith;
+      command = refl;
+      reads_same = refl;
+      reads_later = omega arith;
+      writes_same = refl;
+      fed = ([], refl, c.requires.stands, λ tells. so_far-none _ _);
+    }
 
 pub pieces-preserved : goal.pieces-preserved
 pieces-preserved g c =
@@ -33,7 +35,6 @@ pieces-preserved g c =
     record {
       within = grind (arith, common_steps);
       command = c.feed.ensures.command ∙ inv.command;
-      offset = grind (arith, common_steps, c.in_default-feed.ensures.offset, piece-size);
       reads_same = c.feed.ensures.read_faults ∙ (c.in-Ok.ensures.sound ∙ inv.reads_same);
       reads_later = omega (arith, inv.reads_later, c.read.ensures.cause.later, c.feed.ensures.read_faults);
       writes_same = c.in_default-feed.ensures.sound ∙ (c.read.ensures.write_faults ∙ inv.writes_same);

@@ -1,0 +1,12 @@
+use Rattle.std.proofs.Common.{arith}
+use Rattle.mb_top.proofs.ChainLemmas.{links-count}
+use Rattle.mb_top.proofs.JobLemmas.{chain-stands, job-cut}
+use Rattle.mb_top.proofs.job.Job.is_cut.Goals as goal
+
+pub partial-requires : goal.partial-requires
+partial-requires c =
+    let chain = (chain-stands _ _ _ _ c.requires.0 c.in-Convert.is c.requires.1).0 in
+    omega (arith, links-count _ _ chain.links (omega (arith, chain.some)), chain.some)
+
+pub returns-in-Convert : goal.returns-in-Convert
+returns-in-Convert c = λ bytes h. job-cut _ _ _ _ _ bytes c.in-Convert.is h c.partial.ensures

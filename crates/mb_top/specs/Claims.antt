@@ -1,0 +1,38 @@
+-- Claims about a call at the end of its input, each said of all commands of a kind.
+--
+--   OfConversion ..     of a conversion: by its specs, what it read and what it wrote
+--   OfListing ..        of a listing: by whether it is traced, its spec, what it read and what it wrote
+--   OfReader ..         of a command that reads one recording: by its spec, and all that there was to read
+--   IsTallied ..        the tally that a command asks for stands first on standard error
+--   Unhindered ..       no call failed
+use Rattle.std.specs.Prelude.{◌≡◌, ℕ, Bool, true, List, IsTrue}
+use Rattle.mb_outside.specs.Contents.{Contents}
+use Rattle.mb_carrier.specs.declared.spec.Spec.{Spec}
+use Rattle.mb_words.specs.Command.{Command, Converting, Listing, Means}
+use Rattle.mb_outside.specs.Cause.{Rose}
+use Rattle.mb_message.specs.Front.{IsFront}
+use Rattle.mb_top.specs.Output.{ReadsOne, tally_of}
+use Rattle.mb_top.specs.Answer.{taken_off, added_to, read_all}
+
+abbrev pub OfConversion : (tells : Bool) (words : List (List ℕ)) (answer : ℕ) (before after : Contents)
+    (claim : (first : Spec) (between : List Spec) (last : Spec) (read written : List ℕ) → Type 0) → Type 0
+OfConversion tells words answer before after claim =
+    (tally : Bool) (first : Spec) (between : List Spec) (last : Spec) → IsTrue tells → Means words (Converting tally first between last) → read_all answer ≡ true →
+    claim first between last (taken_off 0 before after) (added_to 1 before after)
+
+abbrev pub OfListing : (tells : Bool) (words : List (List ℕ)) (answer : ℕ) (before after : Contents)
+    (claim : (traced : Bool) (s : Spec) (read written : List ℕ) → Type 0) → Type 0
+OfListing tells words answer before after claim =
+    (traced : Bool) (s : Spec) → IsTrue tells → Means words (Listing traced s) → read_all answer ≡ true →
+    claim traced s (taken_off 0 before after) (added_to 1 before after)
+
+abbrev pub OfReader : (tells : Bool) (words : List (List ℕ)) (before : Contents) (claim : (c : Command) (s : Spec) (left : List ℕ) → Type 0) → Type 0
+OfReader tells words before claim = (c : Command) (s : Spec) → IsTrue tells → Means words c → ReadsOne c s → claim c s (before.left 0)
+
+abbrev pub IsTallied : (tells : Bool) (words : List (List ℕ)) (answer : ℕ) (before after : Contents) → Type 0
+IsTallied tells words answer before after =
+    (c : Command) → IsTrue tells → Means words c → read_all answer ≡ true → IsFront (tally_of c (taken_off 0 before after)) (added_to 2 before after)
+
+pub record Unhindered (reads reads_now writes writes_now : ℕ) : Type 0 where
+  pub reading : Rose reads reads_now → ⊥
+  pub writing : Rose writes writes_now → ⊥

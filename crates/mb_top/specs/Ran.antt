@@ -1,0 +1,71 @@
+-- Inside the top call: what a command did before its answer was said.
+--
+--   Ran c ..               a command read these bytes and wrote those, and changed nothing else
+--   RanEnd c bytes ..      the same at the end of an input of which what is known was written before
+--   RanWords words ..      the same for words, which may mean no command
+--   Faulted ..             a fault of reading or writing came exactly where the status tells of one
+--   at_end cut noted       how a command ends at the end of its input
+use Rattle.std.specs.Prelude.{◌≡◌, ℕ, ◌<◌, ◌≤◌, Bool, true, false, List, [], ◌++◌, length}
+use Rattle.mb_outside.specs.Cause.{Rose}
+use Rattle.mb_outside.specs.Contents.{Contents, after_read, after_write}
+use Rattle.mb_message.specs.Front.{IsFront}
+use Rattle.mb_words.specs.Command.{Command, Means}
+use Rattle.mb_top.specs.Output.{live_output_of, may_want_memory, answers_notes}
+use Rattle.mb_top.specs.Answer.{EndsAs}
+use Rattle.mb_top.specs.declared.status.Status.{Status}
+use Rattle.mb_top.specs.declared.status.Status.TheVariants.{Done, Noted, Usage, Cut, NoMemory, Stopped}
+use Rattle.mb_top.specs.declared.status.Stop.TheVariants.{ReadFault, Refused}
+
+-- standard input was read, standard output written, and a tally to standard error
+abbrev pub written_of : (input output tally : List ℕ) → Contents → Contents
+written_of input output tally c = after_write 2 tally (after_write 1 output (after_read 0 (length input) c))
+
+pub record Ran (c : Command) (limit : ℕ) (before after : Contents) (status : Status) : Type 0 where
+  pub input : List ℕ
+  pub output : List ℕ
+  pub tally : List ℕ
+  pub contents : after ≡ written_of input output tally before
+  pub front : IsFront input (before.left 0)
+  pub within : length input ≤ limit
+  pub ends : EndsAs c limit (before.left 0) input output tally status
+
+pub record RanWords (words : List (List ℕ)) (limit : ℕ) (before after : Contents) (status : Status) : Type 0 where
+  pub input : List ℕ
+  pub output : List ℕ
+  pub tally : List ℕ
+  pub contents : after ≡ written_of input output tally before
+  pub front : IsFront input (before.left 0)
+  pub nothing : status ≡ Usage → (input ≡ []) × (output ≡ []) × (tally ≡ [])
+  pub within : length input ≤ limit
+  pub ends : (c : Command) → Means words c → EndsAs c limit (before.left 0) input output tally status
+
+pub record Faulted (reads reads_now writes writes_now : ℕ) (status : Status) : Type 0 where
+  pub reads_later : reads ≤ reads_now
+  pub writes_later : writes ≤ writes_now
+  pub read : status ≡ Stopped ReadFault → Rose reads reads_now
+  pub write : status ≡ Stopped Refused → Rose writes writes_now
+  pub unread : (status ≡ Stopped ReadFault → ⊥) → reads_now ≡ reads
+  pub unwritten : (status ≡ Stopped Refused → ⊥) → writes_now ≡ writes
+
+abbrev pub at_end : (cut noted : Bool) → Status
+at_end true noted = Cut
+at_end false true = Noted
+at_end false false = Done
+
+-- the end of an input, of which what is known was written before
+pub record RanEnd (c : Command) (bytes : List ℕ) (before after : Contents) (status : Status) : Type 0 where
+  pub output : List ℕ
+  pub tally : List ℕ
+  pub contents : after ≡ after_write 2 tally (after_write 1 output before)
+  pub ends : (limit : ℕ) → length bytes < limit → EndsAs c limit bytes bytes (live_output_of c bytes ++ output) tally status
+
+-- want of memory is answered of commands alone that may want it, notes of `check` alone
+abbrev pub MayAnswer : Command → Status → Type 0
+MayAnswer c Usage = ⊥
+MayAnswer c NoMemory = may_want_memory c ≡ true
+MayAnswer c Noted = answers_notes c ≡ true
+MayAnswer c _ = Unit {0}
+
+pub record MayAnswerWords (words : List (List ℕ)) (status : Status) : Type 0 where
+  pub usage : status ≡ Usage → (c : Command) → Means words c → ⊥
+  pub other : (status ≡ Usage → ⊥) → (c : Command) × Means words c × MayAnswer c status
