@@ -1,6 +1,6 @@
 //! Words, desks and outs.
 
-use mb_outside::{Args, Desk, DeskOut, MemoryDesk, Out, RealDesk, write_all};
+use mb_outside::{Args, Desk, DeskOut, MemoryDesk, MemoryOut, Out, RealDesk, write_all};
 use std::alloc::Global;
 use std::process::Abort;
 
@@ -72,4 +72,22 @@ fn a_real_desk_fails_at_handles_that_it_lacks(rt: HostRuntime) {
     let mut buffer = [0u8; 1];
     assert!(rt; desk.read(5, &mut buffer).is_err() && desk.write(5, &[1]).is_err());
     assert!(rt; desk.write(1, &[]).ok() == Some(0));
+}
+
+#[test]
+fn each_planned_call_fails(rt: HostRuntime) {
+    let mut desk = MemoryDesk::new(rt.alloc(), 4).expect(&rt, "memory");
+    desk.put_input(&[1, 2]).expect(&rt, "memory");
+    desk.plan_faults(&[1, 3]).expect(&rt, "memory");
+    desk.set_piece(1);
+    let mut buffer = [0u8; 8];
+    assert!(rt; reads(&mut desk, &mut buffer, &[None, Some(1), None, Some(1), Some(0)]));
+}
+
+#[test]
+fn an_out_in_memory_takes_what_there_is_room_for(rt: HostRuntime) {
+    let mut out = MemoryOut::new(rt.alloc(), 4).expect(&rt, "memory");
+    assert!(rt; out.take(&[1, 2, 3]).is_ok() && out.take(&[]).is_ok());
+    assert!(rt; out.take(&[4, 5]).is_err() && out.take(&[]).is_ok());
+    assert!(rt; out.bytes() == [1, 2, 3, 4].as_slice());
 }

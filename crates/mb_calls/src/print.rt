@@ -3,7 +3,7 @@
 use crate::marks::Sample;
 use crate::text::{Text, put_line, put_note};
 use mb_message::{Note, NoteKind};
-use mb_print::{Line, mark_line, note_line};
+use mb_print::{Line, mark_line, note_line, put_number, put_text, read_number};
 
 /// Moments, marks, and their lines.
 const MARKS: &[(u64, Sample, &str)] = &[
@@ -75,4 +75,34 @@ fn lines_of_notes(rt: HostRuntime) {
         };
         assert!(rt; lines_of(note).as_slice() == text.as_bytes(), "{text}");
     }
+}
+
+/// Texts, a bound, and the number that they are.
+const NUMBERS: &[(&str, u64, Option<u64>)] = &[
+    ("0", 0, Some(0)),
+    ("15", 15, Some(15)),
+    ("16", 15, None),
+    ("512", 512, Some(512)),
+    ("00", 512, None),
+    ("01", 512, None),
+    ("", 512, None),
+    ("+1", 512, None),
+    ("1x", 512, None),
+    ("18446744073709551615", u64::MAX, Some(u64::MAX)),
+    ("18446744073709551616", u64::MAX, None),
+];
+
+#[test]
+fn numbers_in_texts(rt: HostRuntime) {
+    for (text, most, number) in NUMBERS {
+        assert!(rt; read_number(text.as_bytes(), *most) == *number, "{text}");
+    }
+}
+
+#[test]
+fn a_number_is_read_as_it_is_written(rt: HostRuntime) {
+    let mut line = Line::new();
+    put_text("20", &mut line);
+    put_number(26, &mut line);
+    assert!(rt; read_number(line.as_slice(), 2026) == Some(2026));
 }

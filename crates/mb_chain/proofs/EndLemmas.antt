@@ -14,7 +14,8 @@ use Rattle.mb_stream.specs.Told.{Known, Told, Marks, begun_at, truncated_end, br
 use Rattle.mb_stream.proofs.PutsLemmas.{signs_in-more}
 use Rattle.mb_stream.proofs.StandingLemmas.{apart}
 use Rattle.mb_stream.specs.ReaderLaw.{answer, told_by}
-use Rattle.mb_message.specs.Front.{IsFront}
+use Rattle.mb_message.specs.Front.{IsFront, IsPart}
+use Rattle.mb_outside.specs.TakingLaws.{part-within}
 use Rattle.mb_stream.specs.Reading.{told_signs}
 use Rattle.mb_carrier.specs.Carrier.{known, end_told, payload_of, puts_so_far, puts_of, last_byte_moment, end_moment, live, written}
 use Rattle.mb_carrier.specs.Conversion.{moments_of}
@@ -327,8 +328,8 @@ end-halted_last links h hs writer_now at last took put halted =
           let then : ℕ → ℕ = moments_all l moments bytes in
           let whole : List ℕ = writes_all l moments bytes in
           let f = halted.front then first (behind-all h hs moments bytes row) (have-one links then (length first) (length last) at (last-at h hs writer_now at last put moments bytes row)) in
-          subst (λ (xs : List ℕ). IsFront (xs ++ halted.given) (through_over links then whole)) (sym (over-again links (moments_on l moments bytes) then first (hop-closes l moments bytes).agree))
-          (front-then _ _ _ f (front-then _ _ _ (row-front links then (first ++ last) whole (put-front h hs writer_now at last moments bytes put row)) (row-closes links then whole)));
+          subst (λ (xs : List ℕ). IsPart (xs ++ halted.given) (through_over links then whole)) (sym (over-again links (moments_on l moments bytes) then first (hop-closes l moments bytes).agree))
+          (part-within _ _ _ f (front-then _ _ _ (row-front links then (first ++ last) whole (put-front h hs writer_now at last moments bytes put row)) (row-closes links then whole)));
     }
 
 pub end-halted_rest : (links : List Link) (h : Hop) (hs : List Hop) (mid : (ℕ → ℕ) → List ℕ → Type 0) (at : ℕ) (last rest : List ℕ) (took_first took_second took : List ℕ → Type 0) →
@@ -346,9 +347,10 @@ end-halted_rest links h hs mid at last rest took_first took_second took both clo
           let whole : List ℕ = writes_all l moments bytes in
           let g = halted.front then (first ++ last) (a.stands then first (behind-all h hs moments bytes row) (have-one links then (length first) (length last) at c.last_at))
           (have-one links then (length (first ++ last)) (length rest) at c.rest_at) in
-          let f = front-then _ _ _ (subst (λ (xs : List ℕ). IsFront (live_over links then (first ++ last) ++ halted.given) (live_over links then xs)) (sym (all-written l at last rest moments bytes c)) g) (row-closes links then whole) in
-          (f.0, f.1 ∙ ap (λ xs. xs ++ f.0) (ap (λ xs. xs ++ halted.given) (went links h hs mid at last rest took_first closes a moments bytes row)
-          ∙ append_assoc (live_over links (moments_on l moments bytes) first) a.given halted.given));
+          let f = part-within _ _ _ (subst (λ (xs : List ℕ). IsPart (live_over links then (first ++ last) ++ halted.given) (live_over links then xs)) (sym (all-written l at last rest moments bytes c)) g) (row-closes links then whole) in
+          subst (λ (xs : List ℕ). IsPart xs (through_over links then whole))
+          (ap (λ xs. xs ++ halted.given) (went links h hs mid at last rest took_first closes a moments bytes row)
+          ∙ append_assoc (live_over links (moments_on l moments bytes) first) a.given halted.given) f;
     }
 
 pub end-halted_behind : (links : List Link) (h : Hop) (hs : List Hop) (mid behind : (ℕ → ℕ) → List ℕ → Type 0) (at : ℕ) (last rest : List ℕ) (took_first took_second took_third took : List ℕ → Type 0) →
@@ -363,8 +365,9 @@ end-halted_behind links h hs mid behind at last rest took_first took_second took
           let then : ℕ → ℕ = moments_all l moments bytes in
           let whole : List ℕ = writes_all l moments bytes in
           let f = halted.front then whole (stood links h hs mid behind at last rest took_first took_second closes a b moments bytes row) in
-          (f.0, f.1 ∙ ap (λ xs. xs ++ f.0) (ap (λ xs. xs ++ halted.given) (went-on links h hs mid behind at last rest took_first took_second closes a b moments bytes row)
-          ∙ regroup (live_over links (moments_on l moments bytes) (hands_on l moments bytes)) a.given b.given halted.given));
+          subst (λ (xs : List ℕ). IsPart xs (through_over links then whole))
+          (ap (λ xs. xs ++ halted.given) (went-on links h hs mid behind at last rest took_first took_second closes a b moments bytes row)
+          ∙ regroup (live_over links (moments_on l moments bytes) (hands_on l moments bytes)) a.given b.given halted.given) f;
     }
 
 -- a row by its first hop

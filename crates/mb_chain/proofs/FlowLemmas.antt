@@ -7,7 +7,8 @@ use Rattle.mb_message.specs.Signs.{Sign, signs_of_event}
 use Rattle.mb_stream.specs.Puts.{Put, signs_in, puts_at}
 use Rattle.mb_stream.specs.Standing.{suited}
 use Rattle.mb_stream.specs.Told.{Known}
-use Rattle.mb_message.specs.Front.{IsFront}
+use Rattle.mb_message.specs.Front.{IsFront, IsPart}
+use Rattle.mb_outside.specs.TakingLaws.{part-within, part-behind}
 use Rattle.mb_carrier.specs.Carrier.{known, puts_known, puts_so_far, last_byte_moment, live}
 use Rattle.mb_carrier.specs.Conversion.{moments_of}
 use Rattle.mb_carrier.specs.Hop.{HopStands, HaveMoment}
@@ -198,11 +199,11 @@ driving-halted links h hs at at_now reader reader_now writer writer_now behind w
           let f = halted.front then base a.behind_stands one in
           let g = row-front links then (base ++ held) (hands_on l moments (before ++ piece))
           (way-front l.reads l.writes moments at_now reader_now writer_now (before ++ piece) left_now ps base held w.2) in
-          let k = front-then _ _ _ f g in
-          let same = over-again links (moments_on l moments before) then first (first-agree l moments before piece) in (
-            k.0,
-            k.1 ∙ ap (λ xs. xs ++ k.0) (ap (λ xs. xs ++ halted.given) (a.beyond ∙ ap (λ xs. xs ++ d.given) (sym same)) ∙ append_assoc (live_over links (moments_on l moments before) first) d.given halted.given),
-          );
+          let same = over-again links (moments_on l moments before) then first (first-agree l moments before piece) in
+          subst (λ (xs : List ℕ). IsPart xs (live_over links then (hands_on l moments (before ++ piece))))
+          (ap (λ xs. xs ++ halted.given) (a.beyond ∙ ap (λ xs. xs ++ d.given) (sym same))
+          ∙ append_assoc (live_over links (moments_on l moments before) first) d.given halted.given)
+          (part-within _ _ _ f g);
     }
 
 -- something that a row was handed before, and that may come behind it
@@ -350,10 +351,10 @@ none-fed links was now moment piece took none empty t =
     (subst (λ (hs : List Hop). RowFed [] (RowStands was) (RowStands hs) moment piece took) (sym empty)
     (record { given = piece; took_it = t; stands = λ moments bytes row have. tt; beyond = λ moments bytes row have. refl }))
 
-pub none-halted : (links : List Link) (was : (ℕ → ℕ) → List ℕ → Type 0) (moment : ℕ) (piece : List ℕ) (took : List ℕ → Type 0) → links ≡ [] → ((front : List ℕ) × IsFront front piece × took front) → RowHalted links was moment piece took
+pub none-halted : (links : List Link) (was : (ℕ → ℕ) → List ℕ → Type 0) (moment : ℕ) (piece : List ℕ) (took : List ℕ → Type 0) → links ≡ [] → ((front : List ℕ) × IsPart front piece × took front) → RowHalted links was moment piece took
 none-halted links was moment piece took none f =
     subst (λ (ls : List Link). RowHalted ls was moment piece took) (sym none)
-    (record { given = f.0; took_it = f.2; front = λ moments bytes row have. ((f.1).0, ap (λ xs. bytes ++ xs) (f.1).1 ∙ sym (append_assoc bytes f.0 (f.1).0)) })
+    (record { given = f.0; took_it = f.2; front = λ moments bytes row have. part-behind bytes f.0 piece f.1 })
 
 -- a row by its first hop
 

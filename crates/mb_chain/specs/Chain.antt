@@ -9,7 +9,7 @@
 --   crossing links i bytes     what crosses place i: the bytes fed, or what the writer of the spec at that place wrote
 --   IsFaulty n fault           a chain of so many specs can't be opened
 use Rattle.std.specs.Prelude.{◌≡◌, ℕ, ◌<◌, Bool, false, List, [], ◌∷◌, ◌++◌, length, map, take}
-use Rattle.mb_message.specs.Front.{IsFront}
+use Rattle.mb_message.specs.Front.{IsPart}
 use Rattle.mb_carrier.specs.Conversion.{none_set}
 use Rattle.mb_carrier.specs.declared.spec.Spec.{Spec}
 use Rattle.mb_chain.specs.Row.{Link, link_of, links_from, live_over, through_over, RowStands, RowDone}
@@ -46,7 +46,7 @@ pub record ChainFed (links : List Link) (was now : List ℕ → Type 0) (input :
 pub record ChainHalted (links : List Link) (was : List ℕ → Type 0) (input : List ℕ) (took : List ℕ → Type 0) : Type 0 where
   pub given : List ℕ
   pub took_it : took given
-  pub front : (bytes : List ℕ) → was bytes → IsFront (live_over links none_set bytes ++ given) (live_over links none_set (bytes ++ input))
+  pub front : (bytes : List ℕ) → was bytes → IsPart (live_over links none_set bytes ++ given) (live_over links none_set (bytes ++ input))
 
 pub record ChainFinished (links : List Link) (was done : List ℕ → Type 0) (took : List ℕ → Type 0) : Type 0 where
   pub given : List ℕ
@@ -57,7 +57,7 @@ pub record ChainFinished (links : List Link) (was done : List ℕ → Type 0) (t
 pub record ChainEndHalted (links : List Link) (was : List ℕ → Type 0) (took : List ℕ → Type 0) : Type 0 where
   pub given : List ℕ
   pub took_it : took given
-  pub front : (bytes : List ℕ) → was bytes → IsFront (live_over links none_set bytes ++ given) (through_over links none_set bytes)
+  pub front : (bytes : List ℕ) → was bytes → IsPart (live_over links none_set bytes ++ given) (through_over links none_set bytes)
 
 abbrev pub crossing : List Link → ℕ → List ℕ → List ℕ
 crossing links i bytes = live_over (take i links) none_set bytes

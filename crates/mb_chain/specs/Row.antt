@@ -15,7 +15,7 @@ use Rattle.std.specs.Prelude.{◌≡◌, ℕ, ◌+◌, ◌≤◌, ◌^◌, Bool,
 use Rattle.mb_stream.specs.Told.{Known}
 use Rattle.mb_message.specs.Signs.{Sign}
 use Rattle.mb_stream.specs.Puts.{Put, puts_at}
-use Rattle.mb_message.specs.Front.{IsFront}
+use Rattle.mb_message.specs.Front.{IsPart}
 use Rattle.mb_carrier.specs.Carrier.{puts_so_far, puts_of, last_byte_moment, end_moment, live, written}
 use Rattle.mb_carrier.specs.Conversion.{moments_of}
 use Rattle.mb_carrier.specs.Hop.{HopStands, HaveMoment}
@@ -108,7 +108,7 @@ pub record RowHalted (links : List Link) (was : (ℕ → ℕ) → List ℕ → T
   pub given : List ℕ
   pub took_it : took given
   pub front : (moments : ℕ → ℕ) (bytes : List ℕ) → was moments bytes → HaveOne links moments (length bytes) (length piece) moment →
-      IsFront (live_over links moments bytes ++ given) (live_over links moments (bytes ++ piece))
+      IsPart (live_over links moments bytes ++ given) (live_over links moments (bytes ++ piece))
 
 pub record RowEnded (links : List Link) (was done : (ℕ → ℕ) → List ℕ → Type 0) (took : List ℕ → Type 0) : Type 0 where
   pub given : List ℕ
@@ -121,7 +121,7 @@ pub record RowEndHalted (links : List Link) (was : (ℕ → ℕ) → List ℕ �
   pub given : List ℕ
   pub took_it : took given
   pub front : (moments : ℕ → ℕ) (bytes : List ℕ) → was moments bytes →
-      IsFront (live_over links moments bytes ++ given) (through_over links moments bytes)
+      IsPart (live_over links moments bytes ++ given) (through_over links moments bytes)
 
 -- `moment` is that of the last byte, `at` that of the end
 pub record LastPut (s t : Spec) (reader : List ℕ → List Known → Type 0) (writer writer_now : List Put → Type 0) (moment at : ℕ)

@@ -4,3 +4,5 @@ pub mod ContentsLaws
 pub mod Taking
 pub mod TakingLaws
 pub mod MemoryDesk
+pub mod MemoryOut
+pub mod MemoryOutLaws

@@ -3,8 +3,9 @@
 --   MemoryState              what it holds: the input and how much of it was taken, each byte that was written with its
 --                            handle, the room for these, which calls are to fail, and the counts
 --   contents_of m            its contents, as every desk tells them
+--   IsCalled before after    one more call was counted; what is planned, the size of a piece and the room stay
 --   is_planned, is_full      whether the next call is to fail; whether there is no room for one more byte
-use Rattle.std.specs.Prelude.{ℕ, ◌+◌, ◌-◌, ◌^◌, Bool, ◌==◌, if◌then◌else◌, min, List, [], ◌∷◌, length, map, take, drop}
+use Rattle.std.specs.Prelude.{◌≡◌, ℕ, ◌+◌, ◌-◌, ◌^◌, Bool, ◌==◌, if◌then◌else◌, min, List, [], ◌∷◌, length, map, take, drop}
 use Rattle.std.specs.List.{list_any}
 use Rattle.mb_outside.specs.Contents.{Contents}
 
@@ -56,3 +57,9 @@ count_of_write m size = min size (m.room - length m.log)
 
 abbrev pub logged : (handle : ℕ) → List ℕ → List (ℕ × ℕ)
 logged handle bytes = map (λ b. (handle, b)) bytes
+
+pub record IsCalled (before after : MemoryState) : Type 0 where
+  pub calls : after.calls ≡ one_more before.calls
+  pub planned : after.planned ≡ before.planned
+  pub piece : after.piece ≡ before.piece
+  pub room : after.room ≡ before.room

@@ -1,11 +1,11 @@
 //! One handle of a desk as a taker of bytes.
 
-ghost use Rattle.std.specs.Prelude.{◌≡◌, ◌≢◌, ℕ, List, IsTrue, OnOk, OnErr, refl};
+ghost use Rattle.std.specs.Prelude.{◌≡◌, ℕ, List, IsTrue, OnOk, OnErr, refl};
 ghost use Rattle.std.proofs.Common.{◌∙◌, subst};
 ghost use Rattle.mb_outside.specs.Cause.{HasCause};
 ghost use Rattle.mb_outside.specs.Contents.{is_writable};
 ghost use Rattle.mb_outside.specs.Taking.{Wrote};
-ghost use Rattle.mb_message.specs.Front.{IsFront};
+ghost use Rattle.mb_message.specs.Front.{IsPart};
 
 use crate::{Desk, Failed, Out, Refused};
 
@@ -50,7 +50,7 @@ impl<D: Desk> Out for DeskOut<'_, D> {
 pub fn write_all<D: Desk>(desk: &mut D, h: u32, piece: &[u8]) -> Result<(), Refused>
     requires { IsTrue D.tells → IsTrue (is_writable (D.contents desk.old) h) }
     ensures wrote { OnOk result (Wrote D.tells D.contents D.read_faults h desk.old piece.now desk.new) }
-    ensures part { OnErr result ((front : List ℕ) × IsFront front piece.now × Wrote D.tells D.contents D.read_faults h desk.old front desk.new × (front ≢ piece.now)) }
+    ensures part { OnErr result ((front : List ℕ) × IsPart front piece.now × Wrote D.tells D.contents D.read_faults h desk.old front desk.new) }
     ensures cause { HasCause (D.write_faults desk.old) (D.write_faults desk.new) result }
     ensures sound { OnOk result (D.write_faults desk.new ≡ D.write_faults desk.old) }
     ensures read_faults { D.read_faults desk.new ≡ D.read_faults desk.old }

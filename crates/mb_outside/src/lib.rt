@@ -6,6 +6,7 @@ mod args;
 mod desk;
 mod desk_out;
 mod memory_desk;
+mod memory_out;
 mod out;
 mod real_desk;
 
@@ -13,5 +14,6 @@ pub use args::Args;
 pub use desk::{Desk, Failed};
 pub use desk_out::{DeskOut, write_all};
 pub use memory_desk::MemoryDesk;
+pub use memory_out::MemoryOut;
 pub use out::{Out, Refused};
 pub use real_desk::RealDesk;

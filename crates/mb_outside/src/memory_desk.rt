@@ -3,7 +3,7 @@
 ghost use Rattle.std.specs.Prelude.{◌≡◌, ℕ, ◌+◌, ◌-◌, ◌^◌, ◌<◌, ◌≤◌, ◌↔◌, Bool, true, not, ◌||◌, List, [], ◌∷◌, ◌++◌, length, take, vec_len, vec_capacity, IsTrue, is_ok, MatchOption, IfOk, OnOk, OnErr};
 ghost use Rattle.mb_outside.specs.Cause.{HasCause};
 ghost use Rattle.mb_outside.specs.Contents.{Contents, is_readable, is_writable, Reads, Writes, TakesSome};
-ghost use Rattle.mb_outside.specs.MemoryDesk.{MemoryState, contents_of, is_planned, is_full, count_of_read, count_of_write, one_more, bytes_to, logged};
+ghost use Rattle.mb_outside.specs.MemoryDesk.{MemoryState, contents_of, is_planned, is_full, count_of_read, count_of_write, one_more, bytes_to, logged, IsCalled};
 
 use crate::{Desk, Failed};
 use mb_message::Memory;
@@ -179,6 +179,7 @@ impl Desk for MemoryDesk {
 
         ensures fails { is_ok result ≡ not (is_planned self.old) }
         ensures count { IfOk result (λ count. count ≡ count_of_read self.old (length buf.old)) }
+        ensures called { IsCalled self.old self.new }
     {
         if self.is_to_fail() {
             self.read_faults = self.read_faults.saturating_add(1);
@@ -201,6 +202,7 @@ impl Desk for MemoryDesk {
 
         ensures fails { is_ok result ≡ not (is_planned self.old || is_full self.old) }
         ensures count { IfOk result (λ count. count ≡ count_of_write self.old (length piece.now)) }
+        ensures called { IsCalled self.old self.new }
     {
         let is_planned = self.is_to_fail();
         if is_planned || self.log.len() == self.room {

@@ -19,7 +19,7 @@ pub trait Out {
     /// How often it has refused; it never falls, and rises at a refusal alone.
     ghost refusals: { Self → ℕ };
 
-    /// Takes the piece. After `Refused` it took a beginning of it.
+    /// Takes the piece. After `Refused` it took a beginning of it, and not all.
     fn take(&mut self, piece: &[u8]) -> Result<(), Refused>
         requires { ready self.old }
         ensures ready { ready self.new }

@@ -1,7 +1,7 @@
 -- What a chain of specs does, said of its conversion.
-use Rattle.std.proofs.Common.{◌≡◌, ℕ, zero, suc, ◌+◌, ◌≤◌, Bool, false, not, List, [], ◌∷◌, ◌++◌, length, take, drop, refl, sym, ◌∙◌, ap, arith}
+use Rattle.std.proofs.Common.{subst, ◌≡◌, ℕ, zero, suc, ◌+◌, ◌≤◌, Bool, false, not, List, [], ◌∷◌, ◌++◌, length, take, drop, refl, sym, ◌∙◌, ap, arith}
 use Rattle.std.proofs.lemmas.List.{length-map, length-drop}
-use Rattle.mb_message.specs.Front.{IsFront}
+use Rattle.mb_message.specs.Front.{IsFront, IsPart}
 use Rattle.mb_carrier.specs.Carrier.{whole, live, puts_known}
 use Rattle.mb_carrier.specs.Conversion.{none_set, moments_of, through, live_through}
 use Rattle.mb_carrier.proofs.ConversionLemmas.{laws}
@@ -79,12 +79,9 @@ chain-halted tally specs chain piece took c f =
     record {
       given = f.given;
       took_it = f.took_it;
-      front = λ bytes h.
-          let front = f.front bytes h.1 in (
-            front.0,
-            sym (live-is tally specs (chain_links chain) (bytes ++ piece) c.links c.some)
-                ∙ (front.1 ∙ ap (λ xs. (xs ++ f.given) ++ front.0) (live-is tally specs (chain_links chain) bytes c.links c.some)),
-          );
+      part = λ bytes h.
+          subst (IsPart (live_output_of (converting tally specs) bytes ++ f.given)) (live-is tally specs (chain_links chain) (bytes ++ piece) c.links c.some)
+          (subst (λ (xs : List ℕ). IsPart (xs ++ f.given) (live_over (chain_links chain) none_set (bytes ++ piece))) (live-is tally specs (chain_links chain) bytes c.links c.some) (f.front bytes h.1));
     }
 
 pub chain-ended : (tally : Bool) (specs : List Spec) (chain now : Chain) (took : List ℕ → Type 0) → ChainOf specs chain → chain_links now ≡ chain_links chain →
@@ -111,12 +108,9 @@ chain-end_halted tally specs chain took c f =
     record {
       given = f.given;
       took_it = f.took_it;
-      front = λ bytes h.
-          let front = f.front bytes h.1 in (
-            front.0,
-            sym (through-is tally specs (chain_links chain) bytes c.links c.some)
-                ∙ (front.1 ∙ ap (λ xs. (xs ++ f.given) ++ front.0) (live-is tally specs (chain_links chain) bytes c.links c.some)),
-          );
+      part = λ bytes h.
+          subst (IsPart (live_output_of (converting tally specs) bytes ++ f.given)) (through-is tally specs (chain_links chain) bytes c.links c.some)
+          (subst (λ (xs : List ℕ). IsPart (xs ++ f.given) (through_over (chain_links chain) none_set bytes)) (live-is tally specs (chain_links chain) bytes c.links c.some) (f.front bytes h.1));
     }
 
 -- how many hops there are

@@ -3,15 +3,16 @@ use Rattle.std.proofs.Common.{◌≡◌, Bool, IsTrue, ℕ, ◌+◌, ◌-◌, �
 use Rattle.std.proofs.lemmas.List.{append-nil, take-append-drop, drop_at, length-take-le, take-append-le}
 use Rattle.mb_outside.specs.Contents.{Contents, Gives, after_read, after_write}
 use Rattle.mb_outside.specs.ContentsLaws.{after_read-none, after_read-twice, after_write-none, after_write-twice}
-use Rattle.mb_message.specs.Front.{IsFront}
+use Rattle.mb_message.specs.Front.{IsFront, IsPart}
 use Rattle.mb_outside.specs.Taking.{Wrote}
+use Rattle.mb_outside.specs.TakingLaws.{part-front, part-within, part-differs}
 use Rattle.mb_carrier.specs.Lines.{lines_known}
 use Rattle.mb_carrier.proofs.Fronts.{front-then}
 use Rattle.mb_carrier.proofs.GrowSpecs.{grows}
 use Rattle.mb_top.proofs.ChainLemmas.{chain-none}
 use Rattle.mb_top.proofs.JobLemmas.{command-stays, command-closes}
 use Rattle.mb_words.specs.Command.{Command, Converting, Listing}
-use Rattle.mb_top.specs.Output.{is_whole, live_output_of, tally_of}
+use Rattle.mb_top.specs.Output.{output_of, is_whole, live_output_of, tally_of}
 use Rattle.mb_top.specs.Job.{JobFed, JobHalted, JobEnded, JobEndHalted, JobTold, JobTellHalted, Remarked}
 use Rattle.mb_top.specs.Answer.{EndsAs, WentThrough, all_but_last, PIECE}
 use Rattle.mb_top.specs.Ran.{Ran, RanEnd, MayAnswer, at_end, written_of}
@@ -204,10 +205,11 @@ end-halted c before now bytes was took stands h wrote =
       tally = [];
       contents = wrote ∙ sym (after_write-none 2 (after_write 1 h.given before));
       ends = λ limit below. record {
-        front = h.front bytes stands;
+        front = part-front _ _ (h.part bytes stands);
         known = known-front c bytes h.given;
         tally_front = (tally_of c bytes, refl);
         behind = inl refl;
+        unfinished = λ all told. part-differs _ _ (h.part bytes stands) all;
       };
     }
 
@@ -223,17 +225,21 @@ tell-halted c d before mid now bytes was done noted took tells same_command stan
       ends = λ limit below. record {
         front = ([], e.beyond bytes stands ∙ sym (append-nil (live_output_of c bytes ++ e.given)));
         known = known-front c bytes e.given;
-        tally_front = subst (λ (x : Command). IsFront h.given (tally_of x bytes)) same_command (h.front bytes (e.stands bytes stands));
+        tally_front = part-front _ _ (tally_part same_command (h.part bytes (e.stands bytes stands)));
         behind = inr (sym (e.beyond bytes stands));
+        unfinished = λ all told_all. part-differs _ _ (tally_part same_command (h.part bytes (e.stands bytes stands))) told_all;
       };
     }
+  where
+    tally_part : d ≡ c → IsPart h.given (tally_of d bytes) → IsPart h.given (tally_of c bytes)
+    tally_part same p = subst (λ (x : Command). IsPart h.given (tally_of x bytes)) same p
 
 -- a piece was refused
 pub ran-halted : (c : Command) (limit count : ℕ) (before old now : Contents) (bytes piece given : List ℕ) →
     length piece ≡ count → length bytes + count ≤ limit → count ≤ PIECE → Read c before old bytes piece → now ≡ after_write 1 given old →
-    IsFront (live_output_of c bytes ++ given) (live_output_of c (bytes ++ piece)) →
+    IsPart (live_output_of c bytes ++ given) (live_output_of c (bytes ++ piece)) →
     Ran c limit before now (Stopped Refused)
-ran-halted c limit count before old now bytes piece given size within few s wrote front =
+ran-halted c limit count before old now bytes piece given size within few s wrote part =
     record {
       input = bytes ++ piece;
       output = live_output_of c bytes ++ given;
@@ -244,12 +250,16 @@ ran-halted c limit count before old now bytes piece given size within few s wrot
       front = s.front;
       within = omega (arith, length-append bytes piece, size);
       ends = record {
-        front = front-then _ _ _ front (command-closes c (bytes ++ piece));
+        front = part-front _ _ whole;
         known = front-then _ _ _ (live-front c (all_but_last PIECE (bytes ++ piece)) bytes (all_but_last-front bytes piece (omega (arith, size)))) (given, refl);
         tally_front = (tally_of c (bytes ++ piece), refl);
         behind = inl refl;
+        unfinished = λ all told. part-differs _ _ whole all;
       };
     }
+  where
+    whole : IsPart (live_output_of c bytes ++ given) (output_of c (bytes ++ piece))
+    whole = part-within _ _ _ part (command-closes c (bytes ++ piece))
 
 -- what a job says, at the command that it began with
 pub fed-at : (d c : Command) (was now : List ℕ → Type 0) (piece : List ℕ) (took : List ℕ → Type 0) → d ≡ c → JobFed d was now piece took → JobFed c was now piece took

@@ -1,15 +1,16 @@
 -- The tally, line by line.
-use Rattle.std.proofs.Common.{◌≡◌, ℕ, zero, suc, ◌+◌, ◌<◌, ◌≤◌, List, [], ◌∷◌, ◌++◌, length, take, drop, refl, sym, ◌∙◌, ap, arith, append_assoc}
+use Rattle.std.proofs.Common.{subst, ◌≡◌, ℕ, zero, suc, ◌+◌, ◌<◌, ◌≤◌, List, [], ◌∷◌, ◌++◌, length, take, drop, refl, sym, ◌∙◌, ap, arith, append_assoc}
 use Rattle.std.specs.Prelude.{slice_index_or}
 use Rattle.std.proofs.lemmas.List.{append-nil, length-take-le}
-use Rattle.mb_message.specs.Front.{IsFront}
+use Rattle.mb_message.specs.Front.{IsPart}
+use Rattle.mb_outside.specs.TakingLaws.{part-within, part-behind}
 use Rattle.mb_carrier.specs.Lines.{hop_text}
 use Rattle.mb_carrier.specs.declared.spec.Spec.{Spec}
 use Rattle.mb_chain.specs.Row.{Link}
 use Rattle.mb_chain.specs.Chain.{ChainEnded, chain_links, links_of, crossing_all}
 use Rattle.mb_chain.specs.declared.chain.Chain.{Chain}
 use Rattle.mb_top.specs.Output.{crossing, tally_from}
-use Rattle.mb_top.specs.Job.{ChainOf, Tallied, TalliedFront}
+use Rattle.mb_top.specs.Job.{ChainOf, Tallied, TalliedPart}
 use Rattle.mb_top.proofs.ChainLemmas.{crossing-is, take-next}
 
 -- the lines of the specs before a place were handed on
@@ -69,16 +70,14 @@ told-all specs ended at took all t =
 
 pub told-halted : (specs : List Spec) (chain : Chain) (at count : ℕ) (d s : Spec) (line front : List ℕ) (took next now : List ℕ → Type 0) →
     ChainOf specs chain → at < length specs → s ≡ slice_index_or specs at d → ((bytes : List ℕ) → ChainEnded chain bytes → count ≡ length (crossing_all (chain_links chain) at bytes)) →
-    line ≡ hop_text at s count → IsFront front line → next front → ((x y : List ℕ) → took x → next y → now (x ++ y)) → ToldSoFar specs (ChainEnded chain) at took → TalliedFront specs (ChainEnded chain) now
+    line ≡ hop_text at s count → IsPart front line → next front → ((x y : List ℕ) → took x → next y → now (x ++ y)) → ToldSoFar specs (ChainEnded chain) at took → TalliedPart specs (ChainEnded chain) now
 told-halted specs chain at count d s line front took next now c within is counted line_is f took_front both t =
     record {
       given = t.given ++ front;
       took_it = both t.given front t.took_it took_front;
-      front = λ bytes h.
-          let rest = tally_from (take (at + 1) specs) (drop (at + 1) specs) bytes in (
-            f.0 ++ rest,
-            t.rest bytes h
-                ∙ (ap (λ xs. t.given ++ xs) (next_line specs (chain_links chain) at count d s bytes c.links within is (counted bytes h) ∙ (ap (λ xs. xs ++ rest) (sym line_is ∙ f.1) ∙ append_assoc front f.0 rest))
-                ∙ sym (append_assoc t.given front (f.0 ++ rest))),
-          );
+      part = λ bytes h.
+          let rest = tally_from (take (at + 1) specs) (drop (at + 1) specs) bytes in
+          subst (IsPart (t.given ++ front))
+          (sym (t.rest bytes h ∙ ap (λ xs. t.given ++ xs) (next_line specs (chain_links chain) at count d s bytes c.links within is (counted bytes h) ∙ ap (λ xs. xs ++ rest) (sym line_is))))
+          (part-behind t.given front (line ++ rest) (part-within front line (line ++ rest) f (rest, refl)));
     }

@@ -3,7 +3,7 @@
 ghost use Rattle.std.specs.Prelude.{◌≡◌, ℕ, List, OnOk, OnErr};
 ghost use Rattle.mb_outside.specs.Cause.{HasCause};
 ghost use Rattle.mb_chain.specs.Chain.{ChainEnded};
-ghost use Rattle.mb_top.specs.Job.{ChainOf, Tallied, TalliedFront};
+ghost use Rattle.mb_top.specs.Job.{ChainOf, Tallied, TalliedPart};
 
 use mb_carrier::{Spec, hop_line};
 use mb_chain::Chain;
@@ -19,7 +19,7 @@ pub(crate) fn tell_tally<K: Out>(specs: &[Spec], chain: &Chain, out: &mut K) -> 
     ensures cause { HasCause (K.refusals out.old) (K.refusals out.new) result }
     ensures sound { OnOk result (K.refusals out.new ≡ K.refusals out.old) }
     ensures told { OnOk result (Tallied specs.now (ChainEnded chain.now) (λ given. K.took out.old given out.new)) }
-    ensures halted { OnErr result (TalliedFront specs.now (ChainEnded chain.now) (λ given. K.took out.old given out.new)) }
+    ensures halted { OnErr result (TalliedPart specs.now (ChainEnded chain.now) (λ given. K.took out.old given out.new)) }
 {
     'specs: for at in 0..specs.len() {
         let mut line = Line::new();

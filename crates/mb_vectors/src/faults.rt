@@ -118,6 +118,9 @@ type Limit = (&'static [&'static str], u64, &'static [u8], u8);
 const LIMITS: &[Limit] = &[
     (TO_CABLE_0, 2, CLOCKS, 8),
     (TO_CABLE_0, 4, THREE_CLOCKS, 0),
+    (&["trace", "din"], 2, b"0 rt F8\n0 rt F8\n", 8),
+    (&["check", "din"], 2, &[], 8),
+    (&["convert", "tally", "din", "din"], 2, &[0xf8, 0xf8], 8),
     (TO_LINE, 2, &[0xf8, 0xf8], 8),
     (TO_LINE, 4, &[0xf8, 0xf8, 0xf8], 0),
 ];
@@ -160,6 +163,14 @@ const NO_COMMANDS: &[&[&str]] = &[
     &["convert", "ble/4", "din"],
     &["check", "ble/4"],
     &["convert", "din", "ble"],
+    &["convert", "din", "usb:0", "midi"],
+    &["convert", "din", "usb:16", "din"],
+    &["convert", "tally", "din"],
+    &["convert", "din", "tally", "din"],
+    &["tally", "convert", "din", "din"],
+    &["trace", "din", "din"],
+    &["selftest", "0", "1"],
+    &["run", "r.txt"],
     &["check", "usb:16"],
 ];
 

@@ -4,6 +4,8 @@
 #[cfg(test)]
 mod cables;
 #[cfg(test)]
+mod chains;
+#[cfg(test)]
 mod conversion;
 #[cfg(test)]
 mod faults;
@@ -13,3 +15,5 @@ mod listing;
 mod ports;
 #[cfg(test)]
 mod row;
+#[cfg(test)]
+mod words;

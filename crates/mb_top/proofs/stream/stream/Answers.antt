@@ -14,7 +14,7 @@ returns-in-Err-clause-ran g c = λ tells.
     let fed = c.pieces.invariant.fed in
     let halted = halted-at _ _ _ _ _ c.pieces.invariant.command c.in-Err.ensures.halted in
     let read = read-piece _ _ _ _ fed.0 _ _ c.in-Ok.count (fed.3 tells) (c.in-Ok.ensures.contents tells) (piece-is _ _ c.in-Ok.count c.in-Ok.ensures.bound) in
-    ran-halted _ _ c.in-Ok.count _ _ _ fed.0 _ halted.given (piece-size _ _ c.in-Ok.count c.in-Ok.ensures.bound) (grind (arith, common_steps, fed.1)) (grind (arith, common_steps)) read (halted.took_it.contents_are tells) (halted.front fed.0 fed.2)
+    ran-halted _ _ c.in-Ok.count _ _ _ fed.0 _ halted.given (piece-size _ _ c.in-Ok.count c.in-Ok.ensures.bound) (grind (arith, common_steps, fed.1)) (grind (arith, common_steps)) read (halted.took_it.contents_are tells) (halted.part fed.0 fed.2)
 
 pub pieces-init : goal.pieces-init
 pieces-init g c =

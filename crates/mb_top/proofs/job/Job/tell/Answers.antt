@@ -1,4 +1,4 @@
-use Rattle.mb_top.proofs.JobLemmas.{job-told, job-told_front}
+use Rattle.mb_top.proofs.JobLemmas.{job-told, job-told_part}
 use Rattle.mb_top.proofs.job.Job.tell.Goals as goal
 
 pub returns-then-tally-clause-told : goal.returns-then-tally-clause-told
@@ -7,4 +7,4 @@ returns-then-tally-clause-told g c =
 
 pub returns-then-tally-clause-halted : goal.returns-then-tally-clause-halted
 returns-then-tally-clause-halted g c =
-    job-told_front _ _ _ _ _ _ _ c.in-Convert.is c.if-tally.true c.requires.done c.as_slice.ensures.value c.tell_tally.ensures.halted
+    job-told_part _ _ _ _ _ _ _ c.in-Convert.is c.if-tally.true c.requires.done c.as_slice.ensures.value c.tell_tally.ensures.halted

@@ -1,0 +1,66 @@
+//! Words of a command line, lines of a tally, and a listing, call by call.
+
+use arrayvec::ArrayVec;
+use mb_carrier::{Listing, Spec, hop_line};
+use mb_outside::{Args, MemoryOut};
+use mb_print::Line;
+use mb_words::{Command, Words};
+use std::alloc::Global;
+use std::process::Abort;
+
+/// What words are, as text: the command and its specs by number.
+fn command_of(rt: &impl Abort, alloc: Global, words: &[&str]) -> ArrayVec<u8, 64> {
+    let mut args = Args::new(alloc);
+    for word in words {
+        args.push(word).expect(rt, "memory");
+    }
+    let mut text = ArrayVec::new();
+    let _ = text.try_extend_from_slice(match Words::read(&args) {
+        Ok(Command::Convert { tally: true, .. }) => b"a tally",
+        Ok(Command::Convert { tally: false, .. }) => b"no tally",
+        Ok(Command::Trace(Spec::Din)) => b"trace",
+        Ok(Command::Check(Spec::Usb(_))) => b"check",
+        Ok(_) => b"another",
+        Err(_) => b"none",
+    });
+    text
+}
+
+const WORDS: &[(&[&str], &[u8])] = &[
+    (&["convert", "din", "usb:3"], b"no tally"),
+    (&["convert", "tally", "din", "din", "din"], b"a tally"),
+    (&["trace", "din"], b"trace"),
+    (&["check", "usb:15"], b"check"),
+    (&["convert", "tally"], b"none"),
+];
+
+#[test]
+fn words_are_a_command_or_none(rt: HostRuntime) {
+    for (words, text) in WORDS {
+        assert!(rt; command_of(&rt, rt.alloc(), words).as_slice() == *text, "{words:?}");
+    }
+}
+
+const LINES: &[(u8, Spec, u64, &str)] = &[
+    (0, Spec::Din, 0, "0 din 0\n"),
+    (9, Spec::Usb(15), u64::MAX, "9 usb:15 18446744073709551615\n"),
+];
+
+#[test]
+fn lines_of_a_tally(rt: HostRuntime) {
+    for (place, spec, count, text) in LINES {
+        let mut line = Line::new();
+        hop_line(*place, *spec, *count, &mut line);
+        assert!(rt; line.as_slice() == text.as_bytes(), "{text}");
+    }
+}
+
+#[test]
+fn a_listing_prints_what_is_known(rt: HostRuntime) {
+    let mut out = MemoryOut::new(rt.alloc(), 64).expect(&rt, "memory");
+    let mut listing = Listing::new(Spec::Usb(0), true);
+    assert!(rt; listing.feed(&[0x09, 0xf0, 0x00, 0x00, 0x04], &mut out).is_ok());
+    assert!(rt; listing.traced() && listing.noted() && listing.partial());
+    assert!(rt; listing.finish(&mut out).is_ok());
+    assert!(rt; out.bytes() == b"note 0 cin-mismatch\n0 open\n0 data 00\n0 data 00\n0 abort\n".as_slice());
+}
