@@ -58,9 +58,9 @@ fn lines_of_a_tally(rt: HostRuntime) {
 #[test]
 fn a_listing_prints_what_is_known(rt: HostRuntime) {
     let mut out = MemoryOut::new(rt.alloc(), 64).expect(&rt, "memory");
-    let mut listing = Listing::new(Spec::Usb(0), true);
-    assert!(rt; listing.feed(&[0x09, 0xf0, 0x00, 0x00, 0x04], &mut out).is_ok());
-    assert!(rt; listing.traced() && listing.noted() && listing.partial());
+    let mut listing = Listing::new(Spec::Usb(0), false);
+    assert!(rt; listing.feed(&[0x08, 0x90, 0x3c, 0x64, 0x09], &mut out).is_ok());
+    assert!(rt; !listing.traced() && listing.noted() && listing.partial());
     assert!(rt; listing.finish(&mut out).is_ok());
-    assert!(rt; out.bytes() == b"note 0 cin-mismatch\n0 open\n0 data 00\n0 data 00\n0 abort\n".as_slice());
+    assert!(rt; out.bytes() == b"0 cin-mismatch\n".as_slice());
 }
