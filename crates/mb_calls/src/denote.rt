@@ -36,8 +36,8 @@ fn text_of(den: &Den) -> Text {
     text
 }
 
-/// A note, then a SysEx that is whole, one that is broken, one that is empty and one that stays open, and real-time messages
-/// before, inside and between.
+/// A note, then a SysEx that is whole, one that is broken, one that is empty and one that stays open, and real-time
+/// messages before, inside and between.
 const EACH_KIND: &[Sample] = &[
     Sample::Stop,
     Sample::Note,

@@ -105,7 +105,8 @@ fn a_reader_is_placed_and_resumed(rt: HostRuntime) {
     assert!(rt; text.as_slice() == PLACED.as_bytes());
 }
 
-/// What it tells: stray data at 9, a SysEx that the finish breaks off, nothing at the next finish, and a running status.
+/// What it tells: stray data at 9, a SysEx that the finish breaks off, nothing at the next finish, and a running
+/// status.
 const PLACED: &str = "note 9 stray-data\n0 open\n0 abort\nnone\n0 short C1 05\n";
 
 #[test]

@@ -7,7 +7,8 @@ use crate::text::{Text, put_mark};
 use mb_frames::{Frames, put_frame};
 use mb_message::{Buf, Mark};
 
-/// Appends the lines of what a byte tells, as of marks: of a length that it ends the number and `open`, of content the byte.
+/// Appends the lines of what a byte tells, as of marks: of a length that it ends the number and `open`, of content the
+/// byte.
 fn take_byte(frames: &mut Frames, byte: u8, text: &mut Text)
     requires { is_at_end frames.old ≡ false }
 {

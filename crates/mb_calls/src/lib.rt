@@ -1,5 +1,5 @@
-//! Tests alone: the calls of the lower crates, each on its happy path, and what no clause says of them. They stand here and not
-//! in their crates, since a crate with tests is proved twice.
+//! Tests alone: the calls of the lower crates, each on its happy path, and what no clause says of them. They stand here
+//! and not in their crates, since a crate with tests is proved twice.
 #![tactic(auto)]
 
 #[cfg(test)]

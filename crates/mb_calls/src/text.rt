@@ -6,7 +6,8 @@ use arrayvec::ArrayVec;
 use mb_message::{Ev, Mark, Note, Seen};
 use mb_print::{Line, mark_line, note_line};
 
-/// Lines of what was told: of a mark the cable, or 0 on a byte line, and what it is; of a note `note`, its place and its kind.
+/// Lines of what was told: of a mark the cable, or 0 on a byte line, and what it is; of a note `note`, its place and
+/// its kind.
 pub type Text = ArrayVec<u8, 4096>;
 
 /// How a run of SysEx data is shown.

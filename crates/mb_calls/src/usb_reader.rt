@@ -155,8 +155,8 @@ fn put_short(cable: u8, status: u8, data1: u8, data2: u8, text: &mut Text) {
     }
 }
 
-/// Sixteen cables in turn, each with a running status of its own: notes on the even ones, program changes on the odd ones.
-/// Four rounds of running data follow, each byte by itself, and the lines of all that.
+/// Sixteen cables in turn, each with a running status of its own: notes on the even ones, program changes on the odd
+/// ones. Four rounds of running data follow, each byte by itself, and the lines of all that.
 fn put_sixteen(bytes: &mut Buf, text: &mut Text) {
     for cable in 0..16_u8 {
         if cable % 2 == 0 {
@@ -185,8 +185,8 @@ fn put_sixteen(bytes: &mut Buf, text: &mut Text) {
     }
 }
 
-/// A SysEx on cable 3 with a clock of cable 0 between, one of its bytes by itself; a packet that doesn't suit its code index
-/// number, and one of a reserved number.
+/// A SysEx on cable 3 with a clock of cable 0 between, one of its bytes by itself; a packet that doesn't suit its code
+/// index number, and one of a reserved number.
 const SYSEX_AND_NOTES: &[u8] = &[
     0x34, 0xf0, 1, 2, 0x0f, 0xf8, 0, 0, 0x3f, 3, 7, 7, 0x34, 4, 5, 6, 0x35, 0xf7, 0, 0, 0x09, 0x80,
     0x3c, 0x64, 0, 1, 2, 3,

@@ -51,7 +51,8 @@ fn put_all(writer: &mut UsbWriter, bytes: &[u8], out: &mut Buf)
     requires open { writer.old.in_sysex ≡ true }
     requires run { list_all is_data bytes.now ≡ true }
     ensures in_sysex { writer.new.in_sysex ≡ true }
-    ensures stands { (marks : List Sign) → Stands writer.old marks → Stands writer.new (marks ++ map ByteSign bytes.now) }
+    ensures stands { (marks : List Sign) → Stands writer.old marks →
+        Stands writer.new (marks ++ map ByteSign bytes.now) }
     ensures written { (marks : List Sign) → Stands writer.old marks →
         Appended out.old.items out.new.items
         (usb_live writer.old.cable marks) (usb_live writer.old.cable (marks ++ map ByteSign bytes.now)) }

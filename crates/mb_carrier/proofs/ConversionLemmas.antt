@@ -52,32 +52,40 @@ hop-suits s moments bytes = ap suited (hop-in s moments bytes) ∙ (laws s).suit
 pub hop-valid : (s : Spec) (moments : ℕ → ℕ) (bytes : List ℕ) → AreValid (signs_in (puts_of s moments bytes))
 hop-valid s moments bytes = subst AreValid (sym (hop-in s moments bytes)) ((laws s).valid bytes)
 
-carried-suits : (specs : List Spec) (end : ℕ) (puts : List Put) → suited (signs_in puts) ≡ true → suited (signs_in (carried specs end puts)) ≡ true
+carried-suits : (specs : List Spec) (end : ℕ) (puts : List Put) → suited (signs_in puts) ≡ true →
+    suited (signs_in (carried specs end puts)) ≡ true
 carried-suits [] end puts suits = suits
 carried-suits (s ∷ specs) end puts suits =
     let m : ℕ → ℕ = moments_of s end puts in
-    carried-suits specs (end_moment s m (written s puts)) (puts_of s m (written s puts)) (hop-suits s m (written s puts))
+    carried-suits specs (end_moment s m (written s puts)) (puts_of s m (written s puts))
+        (hop-suits s m (written s puts))
 
-carried-valid : (specs : List Spec) (end : ℕ) (puts : List Put) → AreValid (signs_in puts) → AreValid (signs_in (carried specs end puts))
+carried-valid : (specs : List Spec) (end : ℕ) (puts : List Put) → AreValid (signs_in puts) →
+    AreValid (signs_in (carried specs end puts))
 carried-valid [] end puts valid = valid
 carried-valid (s ∷ specs) end puts valid =
     let m : ℕ → ℕ = moments_of s end puts in
-    carried-valid specs (end_moment s m (written s puts)) (puts_of s m (written s puts)) (hop-valid s m (written s puts))
+    carried-valid specs (end_moment s m (written s puts)) (puts_of s m (written s puts))
+        (hop-valid s m (written s puts))
 
-carried-means : (specs : List Spec) (end : ℕ) (puts : List Put) → suited (signs_in puts) ≡ true → AreValid (signs_in puts) →
+carried-means : (specs : List Spec) (end : ℕ) (puts : List Put) → suited (signs_in puts) ≡ true →
+    AreValid (signs_in puts) →
     denotation (signs_in (carried specs end puts)) ≡ denotation (signs_in puts)
 carried-means [] end puts suits valid = refl
 carried-means (s ∷ specs) end puts suits valid =
     let m : ℕ → ℕ = moments_of s end puts in
-    carried-means specs (end_moment s m (written s puts)) (puts_of s m (written s puts)) (hop-suits s m (written s puts)) (hop-valid s m (written s puts))
+    carried-means specs (end_moment s m (written s puts)) (puts_of s m (written s puts))
+        (hop-suits s m (written s puts)) (hop-valid s m (written s puts))
     ∙ (ap denotation (hop-in s m (written s puts)) ∙ (laws s).means puts suits valid)
 
-carried-length : (specs : List Spec) (end : ℕ) (puts : List Put) → suited (signs_in puts) ≡ true → AreValid (signs_in puts) →
+carried-length : (specs : List Spec) (end : ℕ) (puts : List Put) → suited (signs_in puts) ≡ true →
+    AreValid (signs_in puts) →
     length (signs_in (carried specs end puts)) ≤ length (signs_in puts) + length specs
 carried-length [] end puts suits valid = omega arith
 carried-length (s ∷ specs) end puts suits valid =
     let m : ℕ → ℕ = moments_of s end puts in
-    omega (arith, carried-length specs (end_moment s m (written s puts)) (puts_of s m (written s puts)) (hop-suits s m (written s puts)) (hop-valid s m (written s puts)),
+    omega (arith, carried-length specs (end_moment s m (written s puts)) (puts_of s m (written s puts))
+        (hop-suits s m (written s puts)) (hop-valid s m (written s puts)),
     ap length (hop-in s m (written s puts)), (laws s).one_more puts suits valid)
 
 abbrev read_first : Spec → List ℕ → List Put
@@ -87,15 +95,19 @@ abbrev first_end : Spec → List ℕ → ℕ
 first_end first bytes = end_moment first none_set bytes
 
 -- what is written denotes on its port what the bytes read denote on theirs
-pub through-means : (first : Spec) (between : List Spec) (last : Spec) (bytes : List ℕ) → den last (through first between last bytes) ≡ den first bytes
+pub through-means : (first : Spec) (between : List Spec) (last : Spec) (bytes : List ℕ) →
+    den last (through first between last bytes) ≡ den first bytes
 through-means first between last bytes =
     let suits = hop-suits first none_set bytes in
     let valid = hop-valid first none_set bytes in
     let end = first_end first bytes in
-    (laws last).means (carried between end (read_first first bytes)) (carried-suits between end (read_first first bytes) suits) (carried-valid between end (read_first first bytes) valid)
+    (laws last).means (carried between end (read_first first bytes))
+        (carried-suits between end (read_first first bytes) suits)
+        (carried-valid between end (read_first first bytes) valid)
     ∙ (carried-means between end (read_first first bytes) suits valid ∙ ap denotation (hop-in first none_set bytes))
 
-pub through-clean : (first : Spec) (between : List Spec) (last : Spec) (bytes : List ℕ) → notes_of last (through first between last bytes) ≡ []
+pub through-clean : (first : Spec) (between : List Spec) (last : Spec) (bytes : List ℕ) →
+    notes_of last (through first between last bytes) ≡ []
 through-clean first between last bytes =
     (laws last).clean (carried between (first_end first bytes) (read_first first bytes))
     (carried-suits between (first_end first bytes) (read_first first bytes) (hop-suits first none_set bytes))
@@ -111,7 +123,8 @@ through-canonical first between bytes =
     (carried-suits between (first_end first bytes) (read_first first bytes) (hop-suits first none_set bytes))
     (carried-valid between (first_end first bytes) (read_first first bytes) (hop-valid first none_set bytes))
 
-pub through-whole : (first : Spec) (between : List Spec) (last : Spec) (bytes : List ℕ) → whole last (through first between last bytes) ≡ true
+pub through-whole : (first : Spec) (between : List Spec) (last : Spec) (bytes : List ℕ) →
+    whole last (through first between last bytes) ≡ true
 through-whole first between last bytes =
     (laws last).whole_packets (carried between (first_end first bytes) (read_first first bytes))
     (carried-suits between (first_end first bytes) (read_first first bytes) (hop-suits first none_set bytes))
@@ -122,7 +135,8 @@ through-size first between last bytes =
     let suits = hop-suits first none_set bytes in
     let valid = hop-valid first none_set bytes in
     let end = first_end first bytes in
-    omega (arith, (laws last).size (carried between end (read_first first bytes)) (carried-suits between end (read_first first bytes) suits),
+    omega (arith, (laws last).size (carried between end (read_first first bytes))
+        (carried-suits between end (read_first first bytes) suits),
     carried-length between end (read_first first bytes) suits valid, ap length (hop-in first none_set bytes))
 
 pub through-bounded : (first : Spec) (between : List Spec) (last : Spec) (bytes : List ℕ) →

@@ -21,26 +21,33 @@ use Rattle.mb_carrier.specs.declared.spec.Spec.{Spec}
 use Rattle.mb_carrier.specs.declared.spec.Spec.TheVariants.{Din, Usb}
 use Rattle.mb_carrier.proofs.PlaceLemmas.{StandsIn, In, line-in, one-in}
 
-one-same : (m n : ℕ → ℕ) (count at : ℕ) (t : Told) → ((i : ℕ) → i < count → m i ≡ n i) → StandsIn 0 count at t → put_in (m at) t ≡ put_in (n at) t
+one-same : (m n : ℕ → ℕ) (count at : ℕ) (t : Told) → ((i : ℕ) → i < count → m i ≡ n i) → StandsIn 0 count at t →
+    put_in (m at) t ≡ put_in (n at) t
 one-same m n count at (Marks s) f h = ap (λ k. put_in k (Marks s)) (f at (omega (arith, h.1)))
 one-same m n count at (Notes i kind) f h = refl
 
-din-same : (m n : ℕ → ℕ) (count : ℕ) (ks : List Known) → ((i : ℕ) → i < count → m i ≡ n i) → Each (In 0 count) ks → puts_known Din m ks ≡ puts_known Din n ks
+din-same : (m n : ℕ → ℕ) (count : ℕ) (ks : List Known) → ((i : ℕ) → i < count → m i ≡ n i) → Each (In 0 count) ks →
+    puts_known Din m ks ≡ puts_known Din n ks
 din-same m n count [] f h = refl
-din-same m n count (k ∷ ks) f h = ap₂ (λ a b. a ++ b) (one-same m n count k.at k.told f h.0) (din-same m n count ks f h.1)
+din-same m n count (k ∷ ks) f h = ap₂ (λ a b. a ++ b) (one-same m n count k.at k.told f h.0)
+    (din-same m n count ks f h.1)
 
-usb-same : (cable : ℕ) (m n : ℕ → ℕ) (count : ℕ) (ks : List Known) → ((i : ℕ) → i < count → m i ≡ n i) → Each (In 0 count) ks → puts_known (Usb cable) m ks ≡ puts_known (Usb cable) n ks
+usb-same : (cable : ℕ) (m n : ℕ → ℕ) (count : ℕ) (ks : List Known) → ((i : ℕ) → i < count → m i ≡ n i) →
+    Each (In 0 count) ks → puts_known (Usb cable) m ks ≡ puts_known (Usb cable) n ks
 usb-same cable m n count [] f h = refl
-usb-same cable m n count (k ∷ ks) f h = ap₂ (λ a b. a ++ b) (one-same m n count k.at k.told f h.0) (usb-same cable m n count ks f h.1)
+usb-same cable m n count (k ∷ ks) f h = ap₂ (λ a b. a ++ b) (one-same m n count k.at k.told f h.0)
+    (usb-same cable m n count ks f h.1)
 
 din-place : (bytes : List ℕ) → Each (In 0 (length bytes)) (so_far (din_payload bytes))
-din-place bytes = line-in [] bytes [] [] (so_far (din_payload bytes)) [] refl (sym (append-nil (so_far (din_payload bytes))))
+din-place bytes = line-in [] bytes [] [] (so_far (din_payload bytes)) [] refl
+    (sym (append-nil (so_far (din_payload bytes))))
 
 usb-place : (cable : ℕ) (bytes : List ℕ) → Each (In 0 (length bytes)) (cable_so_far cable bytes)
 usb-place cable bytes =
     let m = usb (only_cable cable) in
     one-in m (only_low cable) (whole 0 m.start [] (λ _. din_state.fresh)) [] bytes [] (cable_so_far cable bytes) []
-    (record { with_port = []; holds = start-holds m 1 (λ _. din_state.fresh) (omega arith) (λ c h. new_stands din_state.fresh refl); told_is = refl })
+    (record { with_port = []; holds = start-holds m 1 (λ _. din_state.fresh) (omega arith)
+        (λ c h. new_stands din_state.fresh refl); told_is = refl })
     (only_law cable bytes ∙ sym (append-nil (cable_so_far cable bytes)))
 
 pub grows : (s : Spec) → GrowLaws s

@@ -12,7 +12,8 @@ use Rattle.mb_carrier.specs.declared.spec.Spec.{Spec}
 use Rattle.mb_carrier.specs.declared.spec.Spec.TheVariants.{Din, Usb}
 
 -- a reading is what is known and what its end tells, at some moment
-read-ends : (s : Spec) (bytes : List ℕ) → (m : ℕ) × (reading_of s bytes ≡ map part_of (known s bytes) ++ map (part_at m) (end_told s bytes))
+read-ends : (s : Spec) (bytes : List ℕ) → (m : ℕ) ×
+    (reading_of s bytes ≡ map part_of (known s bytes) ++ map (part_at m) (end_told s bytes))
 read-ends Din bytes = (last_moment 0 (payload_of Din bytes), refl)
 read-ends (Usb cable) bytes = (0, refl)
 
@@ -31,7 +32,8 @@ all-remarks : (s : Spec) (bytes : List ℕ) → notes_of s bytes ≡ remarks (to
 all-remarks s bytes =
     let read = read-ends s bytes in
     ap stream.notes_of read.1
-    ∙ (flat_map-append (λ (p : Part). note_in p.told) (map part_of (known s bytes)) (map (part_at read.0) (end_told s bytes))
+    ∙ (flat_map-append (λ (p : Part). note_in p.told) (map part_of (known s bytes))
+        (map (part_at read.0) (end_told s bytes))
     ∙ (ap (λ xs. xs ++ stream.notes_of (map (part_at read.0) (end_told s bytes))) (known-remarks (known s bytes))
     ∙ (ap (λ xs. remarks (told_of (known s bytes)) ++ xs) (end-remarks read.0 (end_told s bytes))
     ∙ sym (flat_map-append note_in (told_of (known s bytes)) (end_told s bytes)))))
@@ -46,8 +48,10 @@ some-noted [] e n = cc
 some-noted (Marks m ∷ ts) e n = some-noted ts e n
 some-noted (Notes at kind ∷ ts) e n = cc
 
-pub not-noted : (s : Spec) (bytes : List ℕ) → has_notes (told_of (known s bytes) ++ end_told s bytes) ≡ false → notes_of s bytes ≡ []
+pub not-noted : (s : Spec) (bytes : List ℕ) → has_notes (told_of (known s bytes) ++ end_told s bytes) ≡ false →
+    notes_of s bytes ≡ []
 not-noted s bytes e = all-remarks s bytes ∙ none-noted (told_of (known s bytes) ++ end_told s bytes) e
 
-pub is-noted : (s : Spec) (bytes : List ℕ) → has_notes (told_of (known s bytes) ++ end_told s bytes) ≡ true → notes_of s bytes ≡ [] → ⊥
+pub is-noted : (s : Spec) (bytes : List ℕ) → has_notes (told_of (known s bytes) ++ end_told s bytes) ≡ true →
+    notes_of s bytes ≡ [] → ⊥
 is-noted s bytes e n = some-noted (told_of (known s bytes) ++ end_told s bytes) e (sym (all-remarks s bytes) ∙ n)

@@ -93,7 +93,8 @@ end_moment (Usb cable) moments bytes = last_byte_moment moments (length bytes)
 
 -- the marks of a reading, with their moments
 abbrev pub puts_of : Spec → (moments : ℕ → ℕ) → List ℕ → List Put
-puts_of s moments bytes = puts_so_far s moments bytes ++ puts_at (end_moment s moments bytes) (told_signs (end_told s bytes))
+puts_of s moments bytes = puts_so_far s moments bytes
+    ++ puts_at (end_moment s moments bytes) (told_signs (end_told s bytes))
 
 abbrev pub written : Spec → List Put → List ℕ
 written Din puts = din_written (signs_in puts)

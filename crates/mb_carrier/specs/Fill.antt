@@ -1,10 +1,14 @@
--- A hop in the midst of a piece: what is read of it is written into a buffer, as far as that has room and the moment stays.
+-- A hop in the midst of a piece: what is read of it is written into a buffer, as far as that has room and the moment
+-- stays.
 --
 --   PutSome ..       a front of some marks was put, all at one moment, and data of a SysEx is left
---   Flows ..         of these bytes a reader took a front; its marks were put, `puts`, but for those that it owes; what was written
---                    of them stands in what was handed on before, `base`, and in what the buffer holds; the rest has one moment
+--   Flows ..         of these bytes a reader took a front; its marks were put, `puts`, but for those that it owes;
+--                    what was written
+--                    of them stands in what was handed on before, `base`, and in what the buffer holds; the rest has
+-- one moment
 --   Through ..       all of the bytes are read and written
---   OnItsWay ..      one or the other, by what is left of the piece: nothing, where all of it is read and written; `at` says at
+--   OnItsWay ..      one or the other, by what is left of the piece: nothing, where all of it is read and written;
+--                    `at` says at
 --                    which moment the reader's last event stands, where one was set
 --   AllAt apart ..   where moments are kept apart, these are marks of this moment
 --   More .. puts p   some marks more were put; where moments are kept apart, all of this moment
@@ -26,7 +30,8 @@ pub record PutSome (live : List Put → List ℕ) (was now : List Put → Type 0
   pub goes : (before : List Put) (base : List ℕ) → was before → live before ≡ base ++ held →
       Puts live was now (puts_at at done) held kept before base
 
-pub record Flows (s t : Spec) (moments : ℕ → ℕ) (moment : ℕ) (reader : List ℕ → List Known → Type 0) (writer : List Put → Type 0)
+pub record Flows (s t : Spec) (moments : ℕ → ℕ) (moment : ℕ) (reader : List ℕ → List Known → Type 0)
+    (writer : List Put → Type 0)
     (bytes rest : List ℕ) (owes puts : List Put) (base held : List ℕ) : Type 0 where
   pub taken : List ℕ
   pub cut : bytes ≡ taken ++ rest
@@ -47,7 +52,8 @@ pub record Through (s t : Spec) (moments : ℕ → ℕ) (reader : List ℕ → L
 abbrev pub OnItsWay : (s t : Spec) (moments : ℕ → ℕ) (at : ℕ → ℕ) (reader : List ℕ → List Known → Type 0)
     (writer : List Put → Type 0) (bytes : List ℕ) (left : Option Piece) (puts : List Put) (base held : List ℕ) → Type 0
 OnItsWay s t moments at reader writer bytes (Some p) puts base held =
-    Flows s t moments p.moment reader writer bytes p.rest.now (puts_at (at p.moment) (signs_of_event p.ev)) puts base held
+    Flows s t moments p.moment reader writer bytes p.rest.now
+        (puts_at (at p.moment) (signs_of_event p.ev)) puts base held
 OnItsWay s t moments at reader writer bytes None puts base held = Through s t moments reader writer bytes puts base held
 
 abbrev pub AllAt : (apart : Bool) (at : ℕ) (done : List Put) → Type 0

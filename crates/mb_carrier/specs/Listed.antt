@@ -3,7 +3,8 @@
 --   listing_spec l, listing_traced l     what it reads, and whether marks are printed too
 --   listing_offset l, listing_noted l    how many bytes it read, and whether there was a note
 --   ListingStands l bytes                it read these bytes and printed all that is known of them
---   ListingFed, ListingEnded ..          a whole piece was printed, or the end; ListingHalted, ListingEndHalted: the taker refused
+--   ListingFed, ListingEnded ..          a whole piece was printed, or the end; ListingHalted, ListingEndHalted: the
+--                                        taker refused
 use Rattle.std.specs.Prelude.{ℕ, Bool, List}
 use Rattle.mb_carrier.specs.Listing.{ListStands, ListFed, ListHalted, ListEnded, ListEndHalted}
 use Rattle.mb_carrier.specs.Port.{reader_spec, reader_offset, ReaderStands}
@@ -26,13 +27,16 @@ abbrev pub ListingStands : Listing → List ℕ → Type 0
 ListingStands l bytes = ListStands (reader_spec l.reader) (ReaderStands l.reader) l.noted bytes
 
 abbrev pub ListingFed : (was now : Listing) (piece : List ℕ) (took : List ℕ → Type 0) → Type 0
-ListingFed was now piece took = ListFed (reader_spec was.reader) was.traced (ReaderStands was.reader) (ReaderStands now.reader) was.noted now.noted piece took
+ListingFed was now piece took = ListFed (reader_spec was.reader) was.traced (ReaderStands was.reader)
+    (ReaderStands now.reader) was.noted now.noted piece took
 
 abbrev pub ListingHalted : (was : Listing) (piece : List ℕ) (took : List ℕ → Type 0) → Type 0
-ListingHalted was piece took = ListHalted (reader_spec was.reader) was.traced (ReaderStands was.reader) was.noted piece took
+ListingHalted was piece took = ListHalted (reader_spec was.reader) was.traced
+    (ReaderStands was.reader) was.noted piece took
 
 abbrev pub ListingEnded : (was now : Listing) (took : List ℕ → Type 0) → Type 0
-ListingEnded was now took = ListEnded (reader_spec was.reader) was.traced (ReaderStands was.reader) was.noted now.noted took
+ListingEnded was now took = ListEnded (reader_spec was.reader) was.traced
+    (ReaderStands was.reader) was.noted now.noted took
 
 abbrev pub ListingEndHalted : (was : Listing) (took : List ℕ → Type 0) → Type 0
 ListingEndHalted was took = ListEndHalted (reader_spec was.reader) was.traced (ReaderStands was.reader) was.noted took

@@ -1,4 +1,5 @@
--- By its carrier: what is known of a spec's bytes stays known, the marks of a reading are those that are known and those of its
+-- By its carrier: what is known of a spec's bytes stays known, the marks of a reading are those that are known and
+-- those of its
 -- end, and they suit.
 use Rattle.std.specs.Prelude.{◌≡◌, ℕ, true, List, ◌++◌}
 use Rattle.mb_stream.specs.Standing.{suited}

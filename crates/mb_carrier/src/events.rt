@@ -1,6 +1,7 @@
 //! Readers and writers of one port, as a hop's loop sees them: it is written once, over these traits.
 
-ghost use Rattle.std.specs.Prelude.{◌≡◌, ℕ, ◌+◌, ◌*◌, ◌^◌, ◌<◌, ◌≤◌, Bool, true, false, List, [], ◌∷◌, ◌++◌, length, OnSome, IfSome, IfNone};
+ghost use Rattle.std.specs.Prelude.{◌≡◌, ℕ, ◌+◌, ◌*◌, ◌^◌, ◌<◌, ◌≤◌, Bool, true, false, List, [], ◌∷◌, ◌++◌, length,
+    OnSome, IfSome, IfNone};
 ghost use Rattle.arrayvec.specs.ArrayVec.{array_vec_len};
 ghost use Rattle.mb_message.specs.Signs.{suits_event, IsRunOf, open_behind, signs_of_event};
 ghost use Rattle.mb_stream.specs.Appended.{Appended};
@@ -11,7 +12,8 @@ ghost use Rattle.mb_stream.specs.ReaderLaw.{IsLongest, breaks};
 ghost use Rattle.mb_stream.specs.ReaderLaw.{answer};
 ghost use Rattle.mb_message.specs.Front.{IsFront};
 ghost use Rattle.mb_stream.specs.Reading.{told_signs};
-ghost use Rattle.mb_carrier.specs.Carrier.{known, end_told, marks_of, marks_so_far, last_byte_moment, end_moment, room_of, longest_of, live, written};
+ghost use Rattle.mb_carrier.specs.Carrier.{known, end_told, marks_of, marks_so_far, last_byte_moment, end_moment,
+    room_of, longest_of, live, written};
 ghost use Rattle.mb_carrier.specs.Hop.{ReaderGoes};
 ghost use Rattle.mb_carrier.specs.declared.spec.Spec.{Spec};
 
@@ -34,7 +36,8 @@ pub trait EventReader {
     /// The moment of what it told last, or tells at the end, where one was set: that one, if its carrier has no clock.
     ghost moment: { Self → (moment_set : ℕ) → ℕ };
 
-    /// What breaks a message stands next: a status in the input, or, where a carrier's packets end messages, a packet's end.
+    /// What breaks a message stands next: a status in the input, or, where a carrier's packets end messages, a packet's
+    /// end.
     ghost broken_next: { Self → List ℕ → Type 0 };
 
     /// The bytes of its port that stand side by side at the front of an input, as far as it knows.
@@ -54,15 +57,19 @@ pub trait EventReader {
         requires early { offset self.old + length input.old.now ≤ 2 ^ 51 + 2 ^ 14 }
         ensures spec { spec self.new ≡ spec self.old }
         ensures end { offset self.new + length input.new.now ≡ offset self.old + length input.old.now }
-        ensures progress { OnSome result (2 * length input.new.now + owed self.new < 2 * length input.old.now + owed self.old) }
+        ensures progress { OnSome result
+            (2 * length input.new.now + owed self.new < 2 * length input.old.now + owed self.old) }
         ensures some { OnSome result (answer result ≡ [] → ⊥) }
         ensures none { IfNone result (input.new.now ≡ []) }
         ensures longest { IfSome result (IsLongest (beside self.new input.new.now)) }
         ensures before { breaks (answer result) ≡ true → broken_next self.new input.new.now × rests self.new }
         ensures few { length (told_signs (answer result)) ≤ length input.old.now }
-        ensures goes { (bytes : List ℕ) (told : List Known) → stands self.old bytes told → IsFront told (known (spec self.old) (bytes ++ input.old.now)) →
-            ReaderGoes (spec self.old) (stands self.new) (moment self.new) input.old.now input.new.now (answer result) bytes told }
-        ensures all_told { IfNone result ((bytes : List ℕ) (told : List Known) → stands self.old bytes told → IsFront told (known (spec self.old) (bytes ++ input.old.now)) →
+        ensures goes { (bytes : List ℕ) (told : List Known) → stands self.old bytes told →
+            IsFront told (known (spec self.old) (bytes ++ input.old.now)) →
+            ReaderGoes (spec self.old) (stands self.new) (moment self.new) input.old.now input.new.now
+                (answer result) bytes told }
+        ensures all_told { IfNone result ((bytes : List ℕ) (told : List Known) → stands self.old bytes told →
+            IsFront told (known (spec self.old) (bytes ++ input.old.now)) →
             told ≡ known (spec self.old) (bytes ++ input.old.now)) };
 
     /// What only the end makes known. It takes no byte.
@@ -71,11 +78,14 @@ pub trait EventReader {
         ensures offset { offset self.new ≡ offset self.old }
         ensures partial { is_partial self.new ≡ is_partial self.old }
         ensures rests { rests self.new }
-        ensures told { (bytes : List ℕ) → stands self.old bytes (known (spec self.old) bytes) → answer result ≡ end_told (spec self.old) bytes }
+        ensures told { (bytes : List ℕ) → stands self.old bytes (known (spec self.old) bytes) →
+            answer result ≡ end_told (spec self.old) bytes }
         ensures some { OnSome result (answer result ≡ [] → ⊥) }
         ensures once { OnSome result (rests self.old → ⊥) }
-        ensures at { (bytes : List ℕ) → stands self.old bytes (known (spec self.old) bytes) → (moments : ℕ → ℕ) (moment_set : ℕ) →
-            last_byte_moment moments (length bytes) ≡ moment_set → end_moment (spec self.old) moments bytes ≡ moment self.new moment_set };
+        ensures at { (bytes : List ℕ) → stands self.old bytes (known (spec self.old) bytes) →
+            (moments : ℕ → ℕ) (moment_set : ℕ) →
+            last_byte_moment moments (length bytes) ≡ moment_set →
+                end_moment (spec self.old) moments bytes ≡ moment self.new moment_set };
 
     /// The moment of what was told last, where this one was set.
     fn moment(&self, moment_set: u64) -> u64
@@ -85,7 +95,8 @@ pub trait EventReader {
     ghost stays: { (r : Self) (bytes more : List ℕ) → IsFront (known (spec r) bytes) (known (spec r) (bytes ++ more)) };
 
     /// The marks of a reading are those that are known and those that its end tells.
-    ghost ends: { (r : Self) (bytes : List ℕ) → marks_of (spec r) bytes ≡ marks_so_far (spec r) bytes ++ told_signs (end_told (spec r) bytes) };
+    ghost ends: { (r : Self) (bytes : List ℕ) →
+        marks_of (spec r) bytes ≡ marks_so_far (spec r) bytes ++ told_signs (end_told (spec r) bytes) };
 
     /// What is read of any bytes suits.
     ghost suits: { (r : Self) (bytes : List ℕ) → suited (marks_of (spec r) bytes) ≡ true };
@@ -120,7 +131,8 @@ pub trait EventWriter {
         ensures spec { spec self.new ≡ spec self.old }
         ensures in_sysex { in_sysex self.new ≡ open_behind (in_sysex self.old) ev.entry }
         ensures len { array_vec_len out.new ≤ array_vec_len out.old + room_of (spec self.old) }
-        ensures stands { (puts : List Put) → stands self.old puts → stands self.new (puts ++ puts_at moment (signs_of_event ev.entry)) }
+        ensures stands { (puts : List Put) → stands self.old puts →
+            stands self.new (puts ++ puts_at moment (signs_of_event ev.entry)) }
         ensures written { (puts : List Put) → stands self.old puts → Appended out.old.items out.new.items
             (live (spec self.old) puts) (live (spec self.old) (puts ++ puts_at moment (signs_of_event ev.entry))) };
 

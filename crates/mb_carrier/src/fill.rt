@@ -1,7 +1,8 @@
-//! One hop's loop: a piece is read on and each event written into a buffer, until the piece is used up, the buffer is full, or
-//! the next event has another moment.
+//! One hop's loop: a piece is read on and each event written into a buffer, until the piece is used up, the buffer is
+//! full, or the next event has another moment.
 
-ghost use Rattle.std.specs.Prelude.{◌≡◌, ℕ, ◌+◌, ◌*◌, ◌^◌, ◌<◌, ◌≤◌, true, false, List, [], ◌++◌, map, length, Some, IfSome, IfNone};
+ghost use Rattle.std.specs.Prelude.{◌≡◌, ℕ, ◌+◌, ◌*◌, ◌^◌, ◌<◌, ◌≤◌, true, false, List, [], ◌++◌, map, length, Some,
+    IfSome, IfNone};
 ghost use Rattle.arrayvec.specs.ArrayVec.{array_vec_len};
 ghost use Rattle.mb_message.specs.Signs.{ByteSign, suits_event, signs_of_event, IsRunOf, open_behind};
 ghost use Rattle.mb_stream.specs.Puts.{Put, puts_at};
@@ -12,9 +13,9 @@ ghost use Rattle.mb_carrier.specs.Fill.{PutSome, Flows, Through, OnItsWay, More,
 use crate::{EventReader, EventWriter, Piece};
 use mb_message::{Buf, Ev, Seen};
 
-/// Reads a piece on and writes what it gives into an empty buffer, until the piece is used up, or the buffer has no room for one
-/// more event: then it answers what is left of the piece. Where moments are kept apart, it stops also before an event of another
-/// moment, so that all that it writes has the moment that the reader named before.
+/// Reads a piece on and writes what it gives into an empty buffer, until the piece is used up, or the buffer has no
+/// room for one more event: then it answers what is left of the piece. Where moments are kept apart, it stops also
+/// before an event of another moment, so that all that it writes has the moment that the reader named before.
 #[inline(always)]
 pub(crate) fn fill_pair<'a, R: EventReader, W: EventWriter>(
     reader: &mut R,
@@ -26,16 +27,19 @@ pub(crate) fn fill_pair<'a, R: EventReader, W: EventWriter>(
     requires early { R.offset reader.old + length piece.rest.now ≤ 2 ^ 51 + 2 ^ 14 }
     requires empty { held.old.items ≡ [] }
     requires flows { (moments : ℕ → ℕ) × (bytes : List ℕ) × (puts : List Put) × (base : List ℕ) ×
-        OnItsWay (R.spec reader.old) (W.spec writer.old) moments (R.moment reader.old) (R.stands reader.old) (W.stands writer.old)
+        OnItsWay (R.spec reader.old) (W.spec writer.old) moments (R.moment reader.old) (R.stands reader.old)
+            (W.stands writer.old)
         bytes (Some piece) puts base held.old.items }
     ensures reads { R.spec reader.new ≡ R.spec reader.old }
     ensures writes { W.spec writer.new ≡ W.spec writer.old }
     ensures offset { R.offset reader.new + unread result ≡ R.offset reader.old + length piece.entry.rest.now }
     ensures goes_on { (moments : ℕ → ℕ) (bytes : List ℕ) (puts : List Put) (base : List ℕ) →
-        OnItsWay (R.spec reader.old) (W.spec writer.old) moments (R.moment reader.old) (R.stands reader.old) (W.stands writer.old)
+        OnItsWay (R.spec reader.old) (W.spec writer.old) moments (R.moment reader.old) (R.stands reader.old)
+            (W.stands writer.old)
         bytes (Some piece.entry) puts base held.old.items →
         More apart (R.moment reader.old piece.entry.moment) puts (λ ps.
-        OnItsWay (R.spec reader.old) (W.spec writer.old) moments (R.moment reader.new) (R.stands reader.new) (W.stands writer.new)
+        OnItsWay (R.spec reader.old) (W.spec writer.old) moments (R.moment reader.new) (R.stands reader.new)
+            (W.stands writer.new)
         bytes result ps base held.new.items) }
     ensures moment { HasMoment piece.entry.moment result }
     ensures progress { work (R.owed reader.new) result < work (R.owed reader.old) (Some piece.entry) }
@@ -59,16 +63,19 @@ fn fill_buffer<'a, R: EventReader, W: EventWriter>(
     requires early { R.offset reader.old + length piece.rest.now ≤ 2 ^ 51 + 2 ^ 14 }
     requires empty { held.old.items ≡ [] }
     requires flows { (moments : ℕ → ℕ) × (bytes : List ℕ) × (puts : List Put) × (base : List ℕ) ×
-        OnItsWay (R.spec reader.old) (W.spec writer.old) moments (R.moment reader.old) (R.stands reader.old) (W.stands writer.old)
+        OnItsWay (R.spec reader.old) (W.spec writer.old) moments (R.moment reader.old) (R.stands reader.old)
+            (W.stands writer.old)
         bytes (Some piece) puts base held.old.items }
     ensures reads { R.spec reader.new ≡ R.spec reader.old }
     ensures writes { W.spec writer.new ≡ W.spec writer.old }
     ensures offset { R.offset reader.new + unread result ≡ R.offset reader.old + length piece.entry.rest.now }
     ensures goes_on { (moments : ℕ → ℕ) (bytes : List ℕ) (puts : List Put) (base : List ℕ) →
-        OnItsWay (R.spec reader.old) (W.spec writer.old) moments (R.moment reader.old) (R.stands reader.old) (W.stands writer.old)
+        OnItsWay (R.spec reader.old) (W.spec writer.old) moments (R.moment reader.old) (R.stands reader.old)
+            (W.stands writer.old)
         bytes (Some piece.entry) puts base held.old.items →
         More apart (R.moment reader.old piece.entry.moment) puts (λ ps.
-        OnItsWay (R.spec reader.old) (W.spec writer.old) moments (R.moment reader.new) (R.stands reader.new) (W.stands writer.new)
+        OnItsWay (R.spec reader.old) (W.spec writer.old) moments (R.moment reader.new) (R.stands reader.new)
+            (W.stands writer.new)
         bytes result ps base held.new.items) }
     ensures moment { HasMoment piece.entry.moment result }
     ensures progress { work (R.owed reader.new) result < work (R.owed reader.old) (Some piece.entry) }
@@ -116,16 +123,19 @@ fn read_on<'a, R: EventReader, W: EventWriter>(
     ensures left { IfSome result (λ ev. (moments : ℕ → ℕ) (bytes : List ℕ) (puts : List Put) (base : List ℕ) →
         Flows (R.spec reader.old) (W.spec writer.old) moments moment (R.stands reader.old) (W.stands writer.old)
         bytes rest.old.now [] puts base held.old.items →
-        More apart at puts (λ ps. Flows (R.spec reader.old) (W.spec writer.old) moments moment (R.stands reader.new) (W.stands writer.new)
+        More apart at puts (λ ps. Flows (R.spec reader.old) (W.spec writer.old) moments moment (R.stands reader.new)
+            (W.stands writer.new)
         bytes rest.new.now (puts_at (R.moment reader.new moment) (signs_of_event ev)) ps base held.new.items)) }
     ensures empty { IfNone result (rest.new.now ≡ []) }
     ensures done { IfNone result ((moments : ℕ → ℕ) (bytes : List ℕ) (puts : List Put) (base : List ℕ) →
         Flows (R.spec reader.old) (W.spec writer.old) moments moment (R.stands reader.old) (W.stands writer.old)
         bytes rest.old.now [] puts base held.old.items →
-        More apart at puts (λ ps. Through (R.spec reader.old) (W.spec writer.old) moments (R.stands reader.new) (W.stands writer.new)
+        More apart at puts (λ ps. Through (R.spec reader.old) (W.spec writer.old) moments (R.stands reader.new)
+            (W.stands writer.new)
         bytes ps base held.new.items)) }
     ensures short { IfSome result (λ ev. length (signs_of_event ev) < 2 ^ 64) }
-    ensures progress { IfSome result (λ ev. 2 * length rest.new.now + R.owed reader.new < 2 * length rest.old.now + R.owed reader.old) }
+    ensures progress { IfSome result
+        (λ ev. 2 * length rest.new.now + R.owed reader.new < 2 * length rest.old.now + R.owed reader.old) }
 {
     'events: while let Some(seen) = reader.next(rest) {
         let now = reader.moment(moment);
@@ -161,7 +171,8 @@ fn event_of<'a>(seen: Seen<'a>) -> Ev<'a>
     }
 }
 
-/// Writes an event; a note is passed over. It answers whether there is room for one more; else data of a run may be left.
+/// Writes an event; a note is passed over. It answers whether there is room for one more; else data of a run may be
+/// left.
 #[inline(always)]
 fn put_seen<'a, W: EventWriter>(
     writer: &mut W,

@@ -4,7 +4,8 @@ ghost use Rattle.std.specs.Prelude.{◌≡◌, ℕ, ◌+◌, ◌^◌, ◌≤◌,
 ghost use Rattle.mb_outside.specs.Cause.{HasCause};
 ghost use Rattle.mb_carrier.specs.Carrier.{whole};
 ghost use Rattle.mb_carrier.specs.Word.{IsSpec};
-ghost use Rattle.mb_carrier.specs.Listed.{listing_spec, listing_traced, listing_offset, listing_noted, ListingStands, ListingFed, ListingHalted, ListingEnded, ListingEndHalted};
+ghost use Rattle.mb_carrier.specs.Listed.{listing_spec, listing_traced, listing_offset, listing_noted, ListingStands,
+    ListingFed, ListingHalted, ListingEnded, ListingEndHalted};
 
 use crate::listing::{list_end, list_piece};
 use crate::{PortReader, Spec};

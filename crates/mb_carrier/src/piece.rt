@@ -5,8 +5,8 @@ ghost use Rattle.mb_message.specs.Signs.{signs_of_event};
 
 use mb_message::Ev;
 
-/// What is left of a piece, whose bytes have one moment, in milliseconds: an event that was read and isn't put yet, and the bytes
-/// that aren't read yet. An empty run is no event.
+/// What is left of a piece, whose bytes have one moment, in milliseconds: an event that was read and isn't put yet, and
+/// the bytes that aren't read yet. An empty run is no event.
 #[derive(Clone, Copy, Debug)]
 pub struct Piece<'a> {
     pub moment: u64,

@@ -1,6 +1,7 @@
 //! A reader of whatever port a spec names.
 
-ghost use Rattle.std.specs.Prelude.{◌≡◌, ℕ, ◌+◌, ◌*◌, ◌^◌, true, ◌<◌, ◌≤◌, not, List, [], ◌++◌, length, OnSome, IfSome, IfNone};
+ghost use Rattle.std.specs.Prelude.{◌≡◌, ℕ, ◌+◌, ◌*◌, ◌^◌, true, ◌<◌, ◌≤◌, not, List, [], ◌++◌, length, OnSome,
+    IfSome, IfNone};
 ghost use Rattle.mb_stream.specs.Told.{Known};
 ghost use Rattle.mb_stream.specs.Reading.{told_signs};
 ghost use Rattle.mb_stream.specs.ReaderLaw.{IsLongest, breaks};
@@ -8,8 +9,10 @@ ghost use Rattle.mb_stream.specs.ReaderLaw.{answer};
 ghost use Rattle.mb_message.specs.Front.{IsFront};
 ghost use Rattle.mb_carrier.specs.Carrier.{known, end_told, last_byte_moment, end_moment, whole};
 ghost use Rattle.mb_carrier.specs.Hop.{ReaderGoes};
-ghost use Rattle.mb_carrier.specs.Port.{reader_spec, reader_offset, reader_owed, reader_moment, moment_set, beside, is_partial, ReaderStands, ReaderRests, BrokenNext};
-ghost use Rattle.mb_carrier.specs.Port.{reader_spec_by, reader_offset_by, reader_owed_by, reader_moment_by, beside_by, is_partial_by, ReaderStandsBy, ReaderRestsBy, BrokenNextBy};
+ghost use Rattle.mb_carrier.specs.Port.{reader_spec, reader_offset, reader_owed, reader_moment, moment_set, beside,
+    is_partial, ReaderStands, ReaderRests, BrokenNext};
+ghost use Rattle.mb_carrier.specs.Port.{reader_spec_by, reader_offset_by, reader_owed_by, reader_moment_by, beside_by,
+    is_partial_by, ReaderStandsBy, ReaderRestsBy, BrokenNextBy};
 ghost use Rattle.mb_carrier.specs.Step.{seen_in, seen_of, IsAt};
 ghost use Rattle.mb_carrier.specs.Word.{IsSpec};
 
@@ -49,8 +52,8 @@ impl PortReader {
         PortReader { carrier, moment: 0 }
     }
 
-    /// What is told from here on has this moment, in milliseconds, which is no earlier than the last, unless the carrier has a
-    /// clock.
+    /// What is told from here on has this moment, in milliseconds, which is no earlier than the last, unless the
+    /// carrier has a clock.
     pub fn set_moment(&mut self, moment: u64)
         requires { moment_set self.old ≤ moment }
         ensures moment { moment_set self.new ≡ moment }
@@ -59,10 +62,10 @@ impl PortReader {
         self.moment = moment;
     }
 
-    /// The next event or note of the bytes that were taken and of the input, which it takes from the front of the input.
-    /// What a byte makes known of earlier ones is told while it still stands in the input, and before anything of it is
-    /// kept. `None` comes where the input is used up and all of it is told. A run is lent from the input, never empty, and
-    /// the longest that stands there.
+    /// The next event or note of the bytes that were taken and of the input, which it takes from the front of the
+    /// input. What a byte makes known of earlier ones is told while it still stands in the input, and before anything
+    /// of it is kept. `None` comes where the input is used up and all of it is told. A run is lent from the input,
+    /// never empty, and the longest that stands there.
     pub fn next<'a>(&mut self, input: &mut &'a [u8]) -> Option<PortStep<'a>>
         requires early { reader_offset self.old + length input.old.now ≤ 2 ^ 51 + 2 ^ 14 }
         ensures spec { reader_spec self.new ≡ reader_spec self.old }
@@ -73,23 +76,27 @@ impl PortReader {
         // What it takes and tells, whatever was taken and told before.
         ensures goes { (bytes : List ℕ) (told : List Known) → ReaderStands self.old bytes told →
             IsFront told (known (reader_spec self.old) (bytes ++ input.old.now)) →
-            ReaderGoes (reader_spec self.old) (ReaderStands self.new) (reader_moment self.new) input.old.now input.new.now
+            ReaderGoes (reader_spec self.old) (ReaderStands self.new)
+                (reader_moment self.new) input.old.now input.new.now
             (answer (seen_of result)) bytes told }
         ensures some { OnSome result (answer (seen_of result) ≡ [] → ⊥) }
         ensures none { IfNone result (input.new.now ≡ []) }
         ensures all_told { IfNone result ((bytes : List ℕ) (told : List Known) → ReaderStands self.old bytes told →
-            IsFront told (known (reader_spec self.old) (bytes ++ input.old.now)) → told ≡ known (reader_spec self.old) (bytes ++ input.old.now)) }
+            IsFront told (known (reader_spec self.old) (bytes ++ input.old.now)) →
+                told ≡ known (reader_spec self.old) (bytes ++ input.old.now)) }
         ensures longest { IfSome result (λ step. IsLongest (beside self.new input.new.now) (seen_in step)) }
 
-        // What breaks a message is told of before it is taken: it still stands next, and nothing is begun, running or open on
-        // the port.
-        ensures before { breaks (answer (seen_of result)) ≡ true → BrokenNext self.new input.new.now × ReaderRests self.new }
+        // What breaks a message is told of before it is taken: it still stands next, and nothing is begun, running or
+        // open on the port.
+        ensures before { breaks (answer (seen_of result)) ≡ true → BrokenNext self.new input.new.now ×
+            ReaderRests self.new }
 
         // An event has no more marks than the input handed in has bytes: who hands in one byte gets one mark at most.
         ensures few { length (told_signs (answer (seen_of result))) ≤ length input.old.now }
 
         // A caller's loop ends by this.
-        ensures progress { OnSome result (2 * length input.new.now + reader_owed self.new < 2 * length input.old.now + reader_owed self.old) }
+        ensures progress { OnSome result
+            (2 * length input.new.now + reader_owed self.new < 2 * length input.old.now + reader_owed self.old) }
     {
         match next_seen(&mut self.carrier, input) {
             Some(seen) => Some(PortStep::at(moment_by(&self.carrier, self.moment), seen)),
@@ -97,8 +104,8 @@ impl PortReader {
         }
     }
 
-    /// What only the end of the recording makes known: a message that was begun and not finished, or an open SysEx. Then
-    /// nothing is begun, running or open on the port; offsets go on, and `partial` answers as before.
+    /// What only the end of the recording makes known: a message that was begun and not finished, or an open SysEx.
+    /// Then nothing is begun, running or open on the port; offsets go on, and `partial` answers as before.
     pub fn finish(&mut self) -> Option<PortStep<'static>>
         ensures spec { reader_spec self.new ≡ reader_spec self.old }
         ensures offset { reader_offset self.new ≡ reader_offset self.old }
@@ -144,7 +151,8 @@ impl Default for PortReader {
 
 // A caller that reads events of any port, and hands over the moment with each call.
 impl EventReader for PortReader {
-    ghost use Rattle.mb_carrier.specs.Port.{reader_spec, reader_offset, reader_owed, reader_moment, beside, is_partial, ReaderStands, ReaderRests, BrokenNext};
+    ghost use Rattle.mb_carrier.specs.Port.{reader_spec, reader_offset, reader_owed, reader_moment, beside,
+        is_partial, ReaderStands, ReaderRests, BrokenNext};
     ghost use Rattle.mb_carrier.specs.SpecLaws.{known-stays, marks-end, marks-suit};
 
     ghost spec = { λ r. reader_spec r };
@@ -191,19 +199,24 @@ impl EventReader for PortReader {
 fn next_seen<'a>(carrier: &mut ReaderOf, input: &mut &'a [u8]) -> Option<Seen<'a>>
     requires early { reader_offset_by carrier.old + length input.old.now ≤ 2 ^ 51 + 2 ^ 14 }
     ensures spec { reader_spec_by carrier.new ≡ reader_spec_by carrier.old }
-    ensures end { reader_offset_by carrier.new + length input.new.now ≡ reader_offset_by carrier.old + length input.old.now }
+    ensures end { reader_offset_by carrier.new + length input.new.now
+        ≡ reader_offset_by carrier.old + length input.old.now }
     ensures goes { (bytes : List ℕ) (told : List Known) → ReaderStandsBy carrier.old bytes told →
         IsFront told (known (reader_spec_by carrier.old) (bytes ++ input.old.now)) →
-        ReaderGoes (reader_spec_by carrier.old) (ReaderStandsBy carrier.new) (reader_moment_by carrier.new) input.old.now input.new.now
+        ReaderGoes (reader_spec_by carrier.old) (ReaderStandsBy carrier.new)
+            (reader_moment_by carrier.new) input.old.now input.new.now
         (answer result) bytes told }
     ensures some { OnSome result (answer result ≡ [] → ⊥) }
     ensures none { IfNone result (input.new.now ≡ []) }
     ensures all_told { IfNone result ((bytes : List ℕ) (told : List Known) → ReaderStandsBy carrier.old bytes told →
-        IsFront told (known (reader_spec_by carrier.old) (bytes ++ input.old.now)) → told ≡ known (reader_spec_by carrier.old) (bytes ++ input.old.now)) }
+        IsFront told (known (reader_spec_by carrier.old) (bytes ++ input.old.now)) →
+            told ≡ known (reader_spec_by carrier.old) (bytes ++ input.old.now)) }
     ensures longest { IfSome result (IsLongest (beside_by carrier.new input.new.now)) }
     ensures few { length (told_signs (answer result)) ≤ length input.old.now }
-    ensures before { breaks (answer result) ≡ true → BrokenNextBy carrier.new input.new.now × ReaderRestsBy carrier.new }
-    ensures progress { OnSome result (2 * length input.new.now + reader_owed_by carrier.new < 2 * length input.old.now + reader_owed_by carrier.old) }
+    ensures before { breaks (answer result) ≡ true → BrokenNextBy carrier.new input.new.now ×
+        ReaderRestsBy carrier.new }
+    ensures progress { OnSome result
+        (2 * length input.new.now + reader_owed_by carrier.new < 2 * length input.old.now + reader_owed_by carrier.old) }
 {
     match carrier {
         ReaderOf::Din(reader) => EventReader::next(reader, input),

@@ -8,7 +8,8 @@ ghost use Rattle.mb_carrier.specs.Word.{word_of};
 use crate::Spec;
 use mb_print::{Line, put_number, put_text};
 
-/// Writes the line of how many bytes crossed a place: `PLACE SPEC BYTES`, and a line feed. The line is empty at the start.
+/// Writes the line of how many bytes crossed a place: `PLACE SPEC BYTES`, and a line feed. The line is empty at the
+/// start.
 pub fn hop_line(hop: u8, spec: Spec, bytes: u64, out: &mut Line)
     requires { out.old.items ≡ [] }
     ensures line { out.new.items ≡ hop_text hop spec bytes }

@@ -76,8 +76,8 @@ impl PortWriter {
         }
     }
 
-    /// Appends what an event is written as, or as much of it as is known now. A run has at most `longest` bytes. The moment, in
-    /// milliseconds, is no earlier than the last; a carrier without a clock doesn't write it.
+    /// Appends what an event is written as, or as much of it as is known now. A run has at most `longest` bytes. The
+    /// moment, in milliseconds, is no earlier than the last; a carrier without a clock doesn't write it.
     pub fn put(&mut self, moment: u64, ev: Ev<'_>, out: &mut Buf)
         requires room { array_vec_len out.old + room_of (writer_spec self.old) ≤ 1024 }
         requires suits { suits_event (writer_in_sysex self.old) ev ≡ true }
@@ -85,9 +85,11 @@ impl PortWriter {
         ensures spec { writer_spec self.new ≡ writer_spec self.old }
         ensures in_sysex { writer_in_sysex self.new ≡ open_behind (writer_in_sysex self.old) ev.entry }
         ensures len { array_vec_len out.new ≤ array_vec_len out.old + room_of (writer_spec self.old) }
-        ensures stands { (puts : List Put) → WriterStands self.old puts → WriterStands self.new (puts ++ puts_at moment (signs_of_event ev.entry)) }
+        ensures stands { (puts : List Put) → WriterStands self.old puts →
+            WriterStands self.new (puts ++ puts_at moment (signs_of_event ev.entry)) }
         ensures written { (puts : List Put) → WriterStands self.old puts → Appended out.old.items out.new.items
-            (live (writer_spec self.old) puts) (live (writer_spec self.old) (puts ++ puts_at moment (signs_of_event ev.entry))) }
+            (live (writer_spec self.old) puts) (live (writer_spec self.old) (puts ++ puts_at moment
+                (signs_of_event ev.entry))) }
     {
         match &mut self.carrier {
             WriterOf::Din(writer) => EventWriter::put(writer, moment, ev, out),

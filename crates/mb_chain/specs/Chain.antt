@@ -5,7 +5,8 @@
 --   is_broken chain            whether a call was refused
 --   ChainStands chain bytes    it was fed these bytes, and each hop what the one before wrote; no call was refused
 --   ChainEnded chain bytes     the same at their end: how many bytes each hop wrote
---   ChainFed, ChainHalted ..   what went out of an input, of all bytes so far; ChainFinished, ChainEndHalted: of the end
+--   ChainFed, ChainHalted ..   what went out of an input, of all bytes so far; ChainFinished, ChainEndHalted: of the
+--                              end
 --   crossing links i bytes     what crosses place i: the bytes fed, or what the writer of the spec at that place wrote
 --   IsFaulty n fault           a chain of so many specs can't be opened
 use Rattle.std.specs.Prelude.{◌≡◌, ℕ, ◌<◌, Bool, false, List, [], ◌∷◌, ◌++◌, length, map, take}
@@ -37,27 +38,33 @@ pub record ChainEnded (c : Chain) (bytes : List ℕ) : Type 0 where
   pub row : RowDone c.hops.items none_set bytes
   pub fed : c.fed ≡ length bytes
 
-pub record ChainFed (links : List Link) (was now : List ℕ → Type 0) (input : List ℕ) (took : List ℕ → Type 0) : Type 0 where
+pub record ChainFed (links : List Link) (was now : List ℕ → Type 0) (input : List ℕ)
+    (took : List ℕ → Type 0) : Type 0 where
   pub given : List ℕ
   pub took_it : took given
   pub stands : (bytes : List ℕ) → was bytes → now (bytes ++ input)
-  pub beyond : (bytes : List ℕ) → was bytes → live_over links none_set (bytes ++ input) ≡ live_over links none_set bytes ++ given
+  pub beyond : (bytes : List ℕ) → was bytes →
+      live_over links none_set (bytes ++ input) ≡ live_over links none_set bytes ++ given
 
-pub record ChainHalted (links : List Link) (was : List ℕ → Type 0) (input : List ℕ) (took : List ℕ → Type 0) : Type 0 where
+pub record ChainHalted (links : List Link) (was : List ℕ → Type 0) (input : List ℕ)
+    (took : List ℕ → Type 0) : Type 0 where
   pub given : List ℕ
   pub took_it : took given
-  pub front : (bytes : List ℕ) → was bytes → IsPart (live_over links none_set bytes ++ given) (live_over links none_set (bytes ++ input))
+  pub front : (bytes : List ℕ) → was bytes →
+      IsPart (live_over links none_set bytes ++ given) (live_over links none_set (bytes ++ input))
 
 pub record ChainFinished (links : List Link) (was done : List ℕ → Type 0) (took : List ℕ → Type 0) : Type 0 where
   pub given : List ℕ
   pub took_it : took given
   pub counted : (bytes : List ℕ) → was bytes → done bytes
-  pub beyond : (bytes : List ℕ) → was bytes → through_over links none_set bytes ≡ live_over links none_set bytes ++ given
+  pub beyond : (bytes : List ℕ) → was bytes →
+      through_over links none_set bytes ≡ live_over links none_set bytes ++ given
 
 pub record ChainEndHalted (links : List Link) (was : List ℕ → Type 0) (took : List ℕ → Type 0) : Type 0 where
   pub given : List ℕ
   pub took_it : took given
-  pub front : (bytes : List ℕ) → was bytes → IsPart (live_over links none_set bytes ++ given) (through_over links none_set bytes)
+  pub front : (bytes : List ℕ) → was bytes →
+      IsPart (live_over links none_set bytes ++ given) (through_over links none_set bytes)
 
 abbrev pub crossing : List Link → ℕ → List ℕ → List ℕ
 crossing links i bytes = live_over (take i links) none_set bytes

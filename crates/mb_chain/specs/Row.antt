@@ -2,13 +2,16 @@
 --
 --   Link, link_of                   a hop's two specs
 --   links_from s specs              the hops of a chain of specs: each reads by the spec that the one before writes by
---   live_over links moments bytes   what the last hop has written once the first was handed these bytes, of these moments
+--   live_over links moments bytes   what the last hop has written once the first was handed these bytes, of these
+--                                   moments
 --   through_over ..                 the same once they are at their end
---   HaveOne, IsApart                where a row has hops, what it is handed has one moment, and moments are kept apart before it
+--   HaveOne, IsApart                where a row has hops, what it is handed has one moment, and moments are kept apart
+--                                   before it
 --   RowStands hops moments bytes    each hop was handed what the one before wrote, the first these bytes
 --   RowDone hops moments bytes      each hop wrote so many bytes, up to the end
 --   IsEarly, EndsEarly              all that crosses is short enough for a reader's offsets
---   RowFed, RowEnded                a piece of one moment went through all hops, or the end; RowHalted, RowEndHalted: the taker refused
+--   RowFed, RowEnded                a piece of one moment went through all hops, or the end; RowHalted, RowEndHalted:
+--                                   the taker refused
 --   last_after last m bytes         the moment of the last byte, bytes of one moment being behind others
 --   LastPut ..                      the marks of a hop's end were put, all at one moment
 use Rattle.std.specs.Prelude.{◌≡◌, ℕ, ◌+◌, ◌≤◌, ◌^◌, Bool, true, List, [], ◌∷◌, ◌++◌, length}
@@ -73,21 +76,25 @@ pub record HopAt (h : Hop) (moments : ℕ → ℕ) (bytes : List ℕ) : Type 0 w
 
 abbrev pub RowStands : List Hop → (moments : ℕ → ℕ) → List ℕ → Type 0
 RowStands [] moments bytes = Unit {0}
-RowStands (h ∷ hs) moments bytes = HopAt h moments bytes × RowStands hs (moments_on (link_of h) moments bytes) (hands_on (link_of h) moments bytes)
+RowStands (h ∷ hs) moments bytes = HopAt h moments bytes ×
+    RowStands hs (moments_on (link_of h) moments bytes) (hands_on (link_of h) moments bytes)
 
 abbrev pub RowDone : List Hop → (moments : ℕ → ℕ) → List ℕ → Type 0
 RowDone [] moments bytes = Unit {0}
 RowDone (h ∷ hs) moments bytes =
-    (h.wrote ≡ length (writes_all (link_of h) moments bytes)) × RowDone hs (moments_all (link_of h) moments bytes) (writes_all (link_of h) moments bytes)
+    (h.wrote ≡ length (writes_all (link_of h) moments bytes)) ×
+        RowDone hs (moments_all (link_of h) moments bytes) (writes_all (link_of h) moments bytes)
 
 abbrev pub IsEarly : List Link → (moments : ℕ → ℕ) → List ℕ → Type 0
 IsEarly [] moments bytes = length bytes ≤ 2 ^ 51 + 2 ^ 14
-IsEarly (l ∷ ls) moments bytes = (length bytes ≤ 2 ^ 51 + 2 ^ 14) × IsEarly ls (moments_on l moments bytes) (hands_on l moments bytes)
+IsEarly (l ∷ ls) moments bytes = (length bytes ≤ 2 ^ 51 + 2 ^ 14) ×
+    IsEarly ls (moments_on l moments bytes) (hands_on l moments bytes)
 
 abbrev pub EndsEarly : List Link → (moments : ℕ → ℕ) → List ℕ → Type 0
 EndsEarly [] moments bytes = Unit {0}
 EndsEarly (l ∷ ls) moments bytes =
-    IsEarly ls (moments_all l moments bytes) (writes_all l moments bytes) × EndsEarly ls (moments_all l moments bytes) (writes_all l moments bytes)
+    IsEarly ls (moments_all l moments bytes) (writes_all l moments bytes) ×
+        EndsEarly ls (moments_all l moments bytes) (writes_all l moments bytes)
 
 -- the moment of the last byte, bytes of one moment being behind others
 abbrev pub last_after : (last moment : ℕ) → List ℕ → ℕ
@@ -98,16 +105,19 @@ pub record RowFed (links : List Link) (was now : (ℕ → ℕ) → List ℕ → 
     (took : List ℕ → Type 0) : Type 0 where
   pub given : List ℕ
   pub took_it : took given
-  pub stands : (moments : ℕ → ℕ) (bytes : List ℕ) → was moments bytes → HaveOne links moments (length bytes) (length piece) moment →
+  pub stands : (moments : ℕ → ℕ) (bytes : List ℕ) → was moments bytes →
+      HaveOne links moments (length bytes) (length piece) moment →
       now moments (bytes ++ piece)
-  pub beyond : (moments : ℕ → ℕ) (bytes : List ℕ) → was moments bytes → HaveOne links moments (length bytes) (length piece) moment →
+  pub beyond : (moments : ℕ → ℕ) (bytes : List ℕ) → was moments bytes →
+      HaveOne links moments (length bytes) (length piece) moment →
       live_over links moments (bytes ++ piece) ≡ live_over links moments bytes ++ given
 
 pub record RowHalted (links : List Link) (was : (ℕ → ℕ) → List ℕ → Type 0) (moment : ℕ) (piece : List ℕ)
     (took : List ℕ → Type 0) : Type 0 where
   pub given : List ℕ
   pub took_it : took given
-  pub front : (moments : ℕ → ℕ) (bytes : List ℕ) → was moments bytes → HaveOne links moments (length bytes) (length piece) moment →
+  pub front : (moments : ℕ → ℕ) (bytes : List ℕ) → was moments bytes →
+      HaveOne links moments (length bytes) (length piece) moment →
       IsPart (live_over links moments bytes ++ given) (live_over links moments (bytes ++ piece))
 
 pub record RowEnded (links : List Link) (was done : (ℕ → ℕ) → List ℕ → Type 0) (took : List ℕ → Type 0) : Type 0 where
@@ -124,7 +134,8 @@ pub record RowEndHalted (links : List Link) (was : (ℕ → ℕ) → List ℕ �
       IsPart (live_over links moments bytes ++ given) (through_over links moments bytes)
 
 -- `moment` is that of the last byte, `at` that of the end
-pub record LastPut (s t : Spec) (reader : List ℕ → List Known → Type 0) (writer writer_now : List Put → Type 0) (moment at : ℕ)
+pub record LastPut (s t : Spec) (reader : List ℕ → List Known → Type 0) (writer writer_now : List Put → Type 0)
+    (moment at : ℕ)
     (held : List ℕ) (moments : ℕ → ℕ) (bytes : List ℕ) : Type 0 where
   pub moment_is : end_moment s moments bytes ≡ at
   pub given : (signs : List Sign) × (puts_of s moments bytes ≡ puts_so_far s moments bytes ++ puts_at at signs)

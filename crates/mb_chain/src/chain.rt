@@ -1,13 +1,15 @@
 //! A chain: two to ten specs.
 
-ghost use Rattle.std.specs.Prelude.{◌≡◌, ℕ, ◌+◌, ◌^◌, ◌<◌, ◌≤◌, true, false, not, List, [], ◌∷◌, ◌++◌, length, IfOk, IfErr, OnOk, OnErr};
+ghost use Rattle.std.specs.Prelude.{◌≡◌, ℕ, ◌+◌, ◌^◌, ◌<◌, ◌≤◌, true, false, not, List, [], ◌∷◌, ◌++◌, length, IfOk,
+    IfErr, OnOk, OnErr};
 ghost use Rattle.arrayvec.specs.ArrayVec.{array_vec_len};
 ghost use Rattle.mb_outside.specs.Cause.{HasCause};
 ghost use Rattle.mb_carrier.specs.Carrier.{whole};
 ghost use Rattle.mb_carrier.specs.declared.spec.Spec.{Spec};
 ghost use Rattle.mb_carrier.specs.Word.{AreSpecs};
 ghost use Rattle.mb_chain.specs.Row.{Link};
-ghost use Rattle.mb_chain.specs.Chain.{links_of, chain_links, is_broken, ChainStands, ChainEnded, ChainFed, ChainHalted, ChainFinished, ChainEndHalted, crossing, crossing_all, IsFaulty};
+ghost use Rattle.mb_chain.specs.Chain.{links_of, chain_links, is_broken, ChainStands, ChainEnded, ChainFed,
+    ChainHalted, ChainFinished, ChainEndHalted, crossing, crossing_all, IsFaulty};
 
 use crate::end::end;
 use crate::flow::flow;
@@ -86,8 +88,10 @@ impl Chain {
         ensures cause { HasCause (K.refusals out.old) (K.refusals out.new) result }
         ensures sound { OnOk result (K.refusals out.new ≡ K.refusals out.old) }
         ensures broken { OnErr result (is_broken self.new ≡ true) }
-        ensures fed { OnOk result (ChainFed (chain_links self.old) (ChainStands self.old) (ChainStands self.new) input.now (λ given. K.took out.old given out.new)) }
-        ensures halted { OnErr result (ChainHalted (chain_links self.old) (ChainStands self.old) input.now (λ given. K.took out.old given out.new)) }
+        ensures fed { OnOk result (ChainFed (chain_links self.old) (ChainStands self.old)
+            (ChainStands self.new) input.now (λ given. K.took out.old given out.new)) }
+        ensures halted { OnErr result (ChainHalted (chain_links self.old) (ChainStands self.old) input.now
+            (λ given. K.took out.old given out.new)) }
     {
         match flow(self.hops.as_mut_slice(), 0, input, out) {
             Ok(()) => {
@@ -112,8 +116,10 @@ impl Chain {
         ensures sound { OnOk result (K.refusals out.new ≡ K.refusals out.old) }
         ensures whole { OnOk result (is_broken self.new ≡ is_broken self.old) }
         ensures broken { OnErr result (is_broken self.new ≡ true) }
-        ensures ended { OnOk result (ChainFinished (chain_links self.old) (ChainStands self.old) (ChainEnded self.new) (λ given. K.took out.old given out.new)) }
-        ensures halted { OnErr result (ChainEndHalted (chain_links self.old) (ChainStands self.old) (λ given. K.took out.old given out.new)) }
+        ensures ended { OnOk result (ChainFinished (chain_links self.old) (ChainStands self.old) (ChainEnded self.new)
+            (λ given. K.took out.old given out.new)) }
+        ensures halted { OnErr result (ChainEndHalted (chain_links self.old) (ChainStands self.old)
+            (λ given. K.took out.old given out.new)) }
     {
         match end(self.hops.as_mut_slice(), out) {
             Ok(()) => Ok(()),
@@ -124,11 +130,14 @@ impl Chain {
         }
     }
 
-    /// How many bytes crossed a place: at 0 the bytes fed, at each further one what the writer of the spec at that place wrote.
+    /// How many bytes crossed a place: at 0 the bytes fed, at each further one what the writer of the spec at that
+    /// place wrote.
     pub fn crossed(&self, hop: usize) -> u64
         requires { hop ≤ length (chain_links self.now) }
-        ensures so_far { (bytes : List ℕ) → ChainStands self.now bytes → result ≡ length (crossing (chain_links self.now) hop bytes) }
-        ensures whole { (bytes : List ℕ) → ChainEnded self.now bytes → result ≡ length (crossing_all (chain_links self.now) hop bytes) }
+        ensures so_far { (bytes : List ℕ) → ChainStands self.now bytes →
+            result ≡ length (crossing (chain_links self.now) hop bytes) }
+        ensures whole { (bytes : List ℕ) → ChainEnded self.now bytes →
+            result ≡ length (crossing_all (chain_links self.now) hop bytes) }
     {
         if hop == 0 {
             return self.fed;
@@ -139,7 +148,8 @@ impl Chain {
     /// Whether the bytes that were fed stop inside a packet.
     pub fn partial(&self) -> bool
         requires { 0 < length (chain_links self.now) }
-        ensures { (bytes : List ℕ) (first : Link) (behind : List Link) → ChainStands self.now bytes → chain_links self.now ≡ first ∷ behind → result ≡ not (whole first.reads bytes) }
+        ensures { (bytes : List ℕ) (first : Link) (behind : List Link) → ChainStands self.now bytes →
+            chain_links self.now ≡ first ∷ behind → result ≡ not (whole first.reads bytes) }
     {
         self.hops.as_slice()[0].reader.partial()
     }

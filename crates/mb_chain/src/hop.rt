@@ -33,7 +33,8 @@ impl Hop {
     pub(crate) fn new(alloc: Global, first: Spec, last: Spec) -> Result<Hop, Memory>
         requires first { IsSpec first }
         requires last { IsSpec last }
-        ensures ok { IfOk result (λ hop. (link_of hop ≡ record { reads = first; writes = last }) × ((moments : ℕ → ℕ) → HopAt hop moments [])) }
+        ensures ok { IfOk result (λ hop. (link_of hop ≡ record { reads = first; writes = last }) ×
+            ((moments : ℕ → ℕ) → HopAt hop moments [])) }
         ensures memory { IsOk result }
     {
         match PortWriter::new(alloc, last) {

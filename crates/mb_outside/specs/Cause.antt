@@ -1,4 +1,5 @@
--- When a failure has a cause: a count of faults that never falls rose in the call. At its last value a count stands still.
+-- When a failure has a cause: a count of faults that never falls rose in the call. At its last value a count stands
+-- still.
 use Rattle.std.specs.Prelude.{ℕ, ◌+◌, ◌-◌, ◌^◌, ◌≤◌, min, Result, OnErr}
 
 -- the count rose between two moments, or stands at its last value

@@ -1,10 +1,12 @@
--- What a desk holds, for a desk that tells it: of each handle the bytes that are left to read, those that were taken, and
+-- What a desk holds, for a desk that tells it: of each handle the bytes that are left to read, those that were taken,
+-- and
 -- those that were written. Handles are 0 standard input, 1 standard output and 2 standard error.
 --
 --   after_read handle n c         the first n bytes of a handle were taken
 --   after_write handle bytes c    these bytes were written to a handle
 --   Reads, Writes                 what a call did, by its answer
-use Rattle.std.specs.Prelude.{◌≡◌, ℕ, ◌<◌, ◌≤◌, Bool, ◌||◌, ◌==◌, if◌then◌else◌, List, [], ◌++◌, length, take, drop, Result, MatchResult}
+use Rattle.std.specs.Prelude.{◌≡◌, ℕ, ◌<◌, ◌≤◌, Bool, ◌||◌, ◌==◌, if◌then◌else◌, List, [], ◌++◌, length, take, drop,
+    Result, MatchResult}
 
 pub record Contents : Type 0 where
   pub left : ℕ → List ℕ
@@ -43,7 +45,8 @@ abbrev pub Reads : {E : Type 0} → (old new : Contents) (handle : ℕ) → Resu
 Reads old new handle result buffer = MatchResult result (λ n. Gives old new handle n buffer) (λ _. new ≡ old)
 
 abbrev pub Writes : {E : Type 0} → (old new : Contents) (handle : ℕ) → Result ℕ E → (piece : List ℕ) → Type 0
-Writes old new handle result piece = MatchResult result (λ n. new ≡ after_write handle (take n piece) old) (λ _. new ≡ old)
+Writes old new handle result piece = MatchResult result (λ n. new ≡ after_write handle (take n piece) old)
+    (λ _. new ≡ old)
 
 -- a write takes no more than there is, and some of what there is
 pub record TakesSome (n : ℕ) (piece : List ℕ) : Type 0 where

@@ -10,6 +10,7 @@ use Rattle.mb_outside.specs.Contents.{Contents, after_write}
 abbrev pub TookFront : {S : Type 0} → (S → List ℕ → S → Type 0) → (before after : S) (piece : List ℕ) → Type 0
 TookFront took before after piece = (front : List ℕ) × IsPart front piece × took before front after
 
-pub record Wrote {S : Type 0} (tells : Bool) (contents : S → Contents) (read_faults : S → ℕ) (handle : ℕ) (before : S) (bytes : List ℕ) (after : S) : Type 0 where
+pub record Wrote {S : Type 0} (tells : Bool) (contents : S → Contents) (read_faults : S → ℕ) (handle : ℕ) (before : S)
+    (bytes : List ℕ) (after : S) : Type 0 where
   pub contents_are : IsTrue tells → contents after ≡ after_write handle bytes (contents before)
   pub reads_same : read_faults after ≡ read_faults before

@@ -32,25 +32,30 @@ impl<D: Desk> Out for DeskOut<'_, D> {
 
     ghost ready = { λ out. IsTrue D.tells → IsTrue (is_writable (D.contents out.desk.now) out.handle) };
 
-    ghost took = { λ before bytes after. (after.handle ≡ before.handle) × (after.desk.ghost_name ≡ before.desk.ghost_name)
+    ghost took = { λ before bytes after. (after.handle ≡ before.handle) ×
+        (after.desk.ghost_name ≡ before.desk.ghost_name)
         × Wrote D.tells D.contents D.read_faults before.handle before.desk.now bytes after.desk.now };
 
     ghost refusals = { λ out. D.write_faults out.desk.now };
 
     ghost nothing = { λ out. (refl, refl, Wrote-nothing D.tells D.contents D.read_faults out.handle out.desk.now) };
 
-    ghost both = { λ a b c x y ab bc. (bc.0 ∙ ab.0, bc.1 ∙ ab.1, Wrote-both D.tells D.contents D.read_faults a.handle a.desk.now b.desk.now c.desk.now x y ab.2 (subst (λ (h : ℕ). Wrote D.tells D.contents D.read_faults h b.desk.now y c.desk.now) ab.0 bc.2)) };
+    ghost both = { λ a b c x y ab bc. (bc.0 ∙ ab.0, bc.1 ∙ ab.1,
+        Wrote-both D.tells D.contents D.read_faults a.handle a.desk.now b.desk.now c.desk.now x y ab.2
+        (subst (λ (h : ℕ). Wrote D.tells D.contents D.read_faults h b.desk.now y c.desk.now) ab.0 bc.2)) };
 
     fn take(&mut self, piece: &[u8]) -> Result<(), Refused> {
         write_all(self.desk, self.handle, piece)
     }
 }
 
-/// Writes the piece to a handle, in as many writes as it needs. After `Refused` a beginning of it was written, and not all.
+/// Writes the piece to a handle, in as many writes as it needs. After `Refused` a beginning of it was written, and not
+/// all.
 pub fn write_all<D: Desk>(desk: &mut D, h: u32, piece: &[u8]) -> Result<(), Refused>
     requires { IsTrue D.tells → IsTrue (is_writable (D.contents desk.old) h) }
     ensures wrote { OnOk result (Wrote D.tells D.contents D.read_faults h desk.old piece.now desk.new) }
-    ensures part { OnErr result ((front : List ℕ) × IsPart front piece.now × Wrote D.tells D.contents D.read_faults h desk.old front desk.new) }
+    ensures part { OnErr result ((front : List ℕ) × IsPart front piece.now ×
+        Wrote D.tells D.contents D.read_faults h desk.old front desk.new) }
     ensures cause { HasCause (D.write_faults desk.old) (D.write_faults desk.new) result }
     ensures sound { OnOk result (D.write_faults desk.new ≡ D.write_faults desk.old) }
     ensures read_faults { D.read_faults desk.new ≡ D.read_faults desk.old }

@@ -9,8 +9,8 @@ use std::alloc::Global;
 use std::io::Read;
 use std::rt::Runtime;
 
-/// The standard streams. Each failure of the system's calls is counted, whatever its cause, and so is a write that takes
-/// nothing of a piece, and a handle that isn't known.
+/// The standard streams. Each failure of the system's calls is counted, whatever its cause, and so is a write that
+/// takes nothing of a piece, and a handle that isn't known.
 #[derive(Drop)]
 pub struct RealDesk<R: Runtime> {
     rt: R,

@@ -1,5 +1,6 @@
 -- From what a command did to what the caller sees.
-use Rattle.std.proofs.Common.{◌≡◌, Bool, IsTrue, ℕ, ◌+◌, ◌<◌, ◌≤◌, ◌↔◌, ◌==◌, ◌||◌, if◌then◌else◌, true, false, List, [], ◌++◌, length, take, drop, refl, sym, ◌∙◌, ap, subst, inl, inr, ◌⊎◌, arith, length-append}
+use Rattle.std.proofs.Common.{◌≡◌, Bool, IsTrue, ℕ, ◌+◌, ◌<◌, ◌≤◌, ◌↔◌, ◌==◌, ◌||◌, if◌then◌else◌, true, false, List,
+    [], ◌++◌, length, take, drop, refl, sym, ◌∙◌, ap, subst, inl, inr, ◌⊎◌, arith, length-append}
 use Rattle.std.specs.Prelude.{Result, Ok, Err, OnOk, OnErr}
 use Rattle.std.proofs.lemmas.Bool.Decides.{nat_tests}
 use Rattle.std.proofs.lemmas.List.{append-nil, take_at, drop_at}
@@ -14,7 +15,8 @@ use Rattle.mb_carrier.specs.declared.spec.Spec.{Spec}
 use Rattle.mb_words.specs.Command.{Command, Converting, Listing, Means}
 use Rattle.mb_words.proofs.CommandLemmas.{one_command}
 use Rattle.mb_top.specs.Output.{ReadsOne, reads_from, writes_to, may_want_memory, answers_notes, is_whole}
-use Rattle.mb_top.specs.Answer.{Answered, WentThrough, Moved, EndsAs, Says, faults_told, taken_off, added_to, code_of, text_of, read_all}
+use Rattle.mb_top.specs.Answer.{Answered, WentThrough, Moved, EndsAs, Says, faults_told, taken_off, added_to, code_of,
+    text_of, read_all}
 use Rattle.mb_top.specs.Ran.{Ran, RanWords, MayAnswer, MayAnswerWords, Faulted, written_of}
 use Rattle.mb_top.specs.declared.status.Status.{Status}
 use Rattle.mb_top.specs.declared.status.Status.TheVariants.{Done, Noted, Usage, Cut, NoMemory, Stopped}
@@ -25,19 +27,25 @@ use Rattle.mb_carrier.specs.declared.spec.Spec.TheVariants.{Din}
 use Rattle.mb_carrier.proofs.ConversionLemmas.{through-canonical}
 
 -- a text was written as far as writing went
-pub said : {T E S : Type 0} (r : Result T E) (tells : Bool) (contents : S → Contents) (read_faults : S → ℕ) (before after : S) (text : List ℕ) (rose same : Type 0) →
+pub said : {T E S : Type 0} (r : Result T E) (tells : Bool) (contents : S → Contents) (read_faults : S → ℕ)
+    (before after : S) (text : List ℕ) (rose same : Type 0) →
     OnOk r (Wrote tells contents read_faults 2 before text after) →
-    OnErr r ((front : List ℕ) × IsPart front text × Wrote tells contents read_faults 2 before front after) → OnErr r rose → OnOk r same → IsTrue tells →
-    (words : List ℕ) × (contents after ≡ after_write 2 words (contents before)) × Says rose words text × (words ≡ text → same)
+    OnErr r ((front : List ℕ) × IsPart front text × Wrote tells contents read_faults 2 before front after) →
+        OnErr r rose → OnOk r same → IsTrue tells →
+    (words : List ℕ) × (contents after ≡ after_write 2 words (contents before)) × Says rose words text ×
+        (words ≡ text → same)
 said (Ok x) tells contents read_faults before after text rose same ok err cause sound t =
     (text, ok.contents_are t, record { front = ([], sym (append-nil text)); all = inl refl }, λ whole. sound)
 said (Err x) tells contents read_faults before after text rose same ok err cause sound t =
-    (err.0, (err.2).contents_are t, record { front = part-front err.0 text err.1; all = inr cause }, λ whole. absurd (part-differs err.0 text err.1 whole))
+    (err.0, (err.2).contents_are t, record { front = part-front err.0 text err.1; all = inr cause },
+        λ whole. absurd (part-differs err.0 text err.1 whole))
 
 -- of an empty text nothing is written
 pub none_said : (contents : Contents) (text : List ℕ) (rose : Type 0) (faults : ℕ) → text ≡ [] →
-    (words : List ℕ) × (contents ≡ after_write 2 words contents) × Says rose words text × (words ≡ text → faults ≡ faults)
-none_said contents text rose faults none = ([], sym (after_write-none 2 contents), record { front = (text, refl); all = inl (sym none) }, λ whole. refl)
+    (words : List ℕ) × (contents ≡ after_write 2 words contents) × Says rose words text ×
+        (words ≡ text → faults ≡ faults)
+none_said contents text rose faults none =
+    ([], sym (after_write-none 2 contents), record { front = (text, refl); all = inl (sym none) }, λ whole. refl)
 
 wrong : true ≡ false → ⊥
 wrong e = cc
@@ -46,7 +54,8 @@ wrong e = cc
 
 abbrev status_at : ℕ → Status
 status_at n =
-    if n == 0 then Done else (if n == 1 then Noted else (if n == 2 then Usage else (if n == 3 then Stopped ReadFault else (if n == 4 then Stopped Refused else
+    if n == 0 then Done else (if n == 1 then Noted else (if n == 2 then Usage else
+        (if n == 3 then Stopped ReadFault else (if n == 4 then Stopped Refused else
     (if n == 5 then Cut else (if n == 8 then Stopped TooLong else NoMemory))))))
 
 again : (s : Status) → status_at (code_of s) ≡ s
@@ -66,7 +75,8 @@ pub other_status : (s t : Status) → (code_of s ≡ code_of t → ⊥) → s �
 other_status s t other e = other (ap code_of e)
 
 -- a claim about a status at the end of the input
-at_the_end : (claim : Status → Type 0) → claim Done → claim Noted → claim Cut → (s : Status) → read_all (code_of s) ≡ true → claim s
+at_the_end : (claim : Status → Type 0) → claim Done → claim Noted → claim Cut → (s : Status) →
+    read_all (code_of s) ≡ true → claim s
 at_the_end claim done noted cut Done e = done
 at_the_end claim done noted cut Noted e = noted
 at_the_end claim done noted cut Cut e = cut
@@ -78,10 +88,12 @@ at_the_end claim done noted cut (Stopped TooLong) e = absurd (wrong (sym e))
 
 -- what a caller sees of what was read, written and said
 
-with_entry-other : (entries : ℕ → List ℕ) (handle : ℕ) (bytes : List ℕ) (other : ℕ) → (other == handle) ≡ false → with_entry entries handle bytes other ≡ entries other
+with_entry-other : (entries : ℕ → List ℕ) (handle : ℕ) (bytes : List ℕ) (other : ℕ) → (other == handle) ≡ false →
+    with_entry entries handle bytes other ≡ entries other
 with_entry-other entries handle bytes other e = ap (λ (t : Bool). if t then bytes else entries other) e
 
-with_entry-at : (entries : ℕ → List ℕ) (handle : ℕ) (bytes : List ℕ) (other : ℕ) → (other == handle) ≡ true → with_entry entries handle bytes other ≡ bytes
+with_entry-at : (entries : ℕ → List ℕ) (handle : ℕ) (bytes : List ℕ) (other : ℕ) → (other == handle) ≡ true →
+    with_entry entries handle bytes other ≡ bytes
 with_entry-at entries handle bytes other e = ap (λ (t : Bool). if t then bytes else entries other) e
 
 handle-is : (other handle : ℕ) → (other == handle) ≡ true → other ≡ handle
@@ -97,55 +109,77 @@ seen_at input handle = if handle == 0 then input else []
 abbrev written_at : (output words : List ℕ) (handle : ℕ) → List ℕ
 written_at output words handle = if handle == 2 then words else (if handle == 1 then output else [])
 
-taken-at : (input output words : List ℕ) (before : Contents) (handle : ℕ) → IsFront input (before.left 0) → taken_off handle before (written_of input output words before) ≡ seen_at input handle
+taken-at : (input output words : List ℕ) (before : Contents) (handle : ℕ) → IsFront input (before.left 0) →
+    taken_off handle before (written_of input output words before) ≡ seen_at input handle
 taken-at input output words before handle f = by_test (handle == 0) refl
   where
-    by_test : (t : Bool) → (handle == 0) ≡ t → taken_off handle before (written_of input output words before) ≡ seen_at input handle
+    by_test : (t : Bool) → (handle == 0) ≡ t →
+        taken_off handle before (written_of input output words before) ≡ seen_at input handle
     by_test true e =
-        ap (λ (xs : List ℕ). drop (length (before.taken handle)) xs) (with_entry-at before.taken 0 (before.taken 0 ++ take (length input) (before.left 0)) handle e)
-        ∙ (ap (λ (n : ℕ). drop (length (before.taken n)) (before.taken 0 ++ take (length input) (before.left 0))) (handle-is handle 0 e)
+        ap (λ (xs : List ℕ). drop (length (before.taken handle)) xs)
+            (with_entry-at before.taken 0 (before.taken 0 ++ take (length input) (before.left 0)) handle e)
+        ∙ (ap (λ (n : ℕ). drop (length (before.taken n)) (before.taken 0 ++ take (length input) (before.left 0)))
+            (handle-is handle 0 e)
         ∙ (drop_at (before.taken 0) (take (length input) (before.left 0)) (length (before.taken 0)) refl
-        ∙ (ap (take (length input)) f.1 ∙ (take_at input f.0 (length input) refl ∙ sym (ap (λ (t : Bool). if t then input else []) e)))))
+        ∙ (ap (take (length input)) f.1 ∙ (take_at input f.0 (length input) refl ∙ sym (ap (λ
+            (t : Bool). if t then input else []) e)))))
     by_test false e =
-        ap (λ (xs : List ℕ). drop (length (before.taken handle)) xs) (with_entry-other before.taken 0 (before.taken 0 ++ take (length input) (before.left 0)) handle e)
+        ap (λ (xs : List ℕ). drop (length (before.taken handle)) xs)
+            (with_entry-other before.taken 0 (before.taken 0 ++ take (length input) (before.left 0)) handle e)
         ∙ (behind_all (before.taken handle) ∙ sym (ap (λ (t : Bool). if t then input else []) e))
 
-added-at : (input output words : List ℕ) (before : Contents) (handle : ℕ) → added_to handle before (written_of input output words before) ≡ written_at output words handle
+added-at : (input output words : List ℕ) (before : Contents) (handle : ℕ) →
+    added_to handle before (written_of input output words before) ≡ written_at output words handle
 added-at input output words before handle = by_tests (handle == 2) (handle == 1) refl refl
   where
-    by_tests : (t u : Bool) → (handle == 2) ≡ t → (handle == 1) ≡ u → added_to handle before (written_of input output words before) ≡ written_at output words handle
+    by_tests : (t u : Bool) → (handle == 2) ≡ t → (handle == 1) ≡ u →
+        added_to handle before (written_of input output words before) ≡ written_at output words handle
     by_tests true u e f =
-        ap (λ (xs : List ℕ). drop (length (before.written handle)) xs) (with_entry-at (with_entry before.written 1 (before.written 1 ++ output)) 2 (before.written 2 ++ words) handle e)
+        ap (λ (xs : List ℕ). drop (length (before.written handle)) xs)
+            (with_entry-at (with_entry before.written 1 (before.written 1 ++ output)) 2
+            (before.written 2 ++ words) handle e)
         ∙ (ap (λ (n : ℕ). drop (length (before.written n)) (before.written 2 ++ words)) (handle-is handle 2 e)
-        ∙ (drop_at (before.written 2) words (length (before.written 2)) refl ∙ sym (ap (λ (t : Bool). if t then words else (if handle == 1 then output else [])) e)))
+        ∙ (drop_at (before.written 2) words (length (before.written 2)) refl
+            ∙ sym (ap (λ (t : Bool). if t then words else (if handle == 1 then output else [])) e)))
     by_tests false true e f =
         ap (λ (xs : List ℕ). drop (length (before.written handle)) xs)
-        (with_entry-other (with_entry before.written 1 (before.written 1 ++ output)) 2 (before.written 2 ++ words) handle e ∙ with_entry-at before.written 1 (before.written 1 ++ output) handle f)
+        (with_entry-other (with_entry before.written 1 (before.written 1 ++ output)) 2
+            (before.written 2 ++ words) handle e ∙ with_entry-at before.written 1 (before.written 1 ++ output) handle f)
         ∙ (ap (λ (n : ℕ). drop (length (before.written n)) (before.written 1 ++ output)) (handle-is handle 1 f)
         ∙ (drop_at (before.written 1) output (length (before.written 1)) refl
-        ∙ sym (ap (λ (t : Bool). if t then words else (if handle == 1 then output else [])) e ∙ ap (λ (t : Bool). if t then output else []) f)))
+        ∙ sym (ap (λ (t : Bool). if t then words else (if handle == 1 then output else [])) e
+            ∙ ap (λ (t : Bool). if t then output else []) f)))
     by_tests false false e f =
         ap (λ (xs : List ℕ). drop (length (before.written handle)) xs)
-        (with_entry-other (with_entry before.written 1 (before.written 1 ++ output)) 2 (before.written 2 ++ words) handle e ∙ with_entry-other before.written 1 (before.written 1 ++ output) handle f)
-        ∙ (behind_all (before.written handle) ∙ sym (ap (λ (t : Bool). if t then words else (if handle == 1 then output else [])) e ∙ ap (λ (t : Bool). if t then output else []) f))
+        (with_entry-other (with_entry before.written 1 (before.written 1 ++ output)) 2
+            (before.written 2 ++ words) handle e ∙ with_entry-other before.written 1 (before.written 1
+            ++ output) handle f)
+        ∙ (behind_all (before.written handle) ∙ sym (ap (λ (t : Bool). if t then words else
+            (if handle == 1 then output else [])) e ∙ ap (λ (t : Bool). if t then output else []) f))
 
-moved : (input output words : List ℕ) (before : Contents) → IsFront input (before.left 0) → Moved before (written_of input output words before)
+moved : (input output words : List ℕ) (before : Contents) → IsFront input (before.left 0) →
+    Moved before (written_of input output words before)
 moved input output words before f =
     record {
-      left = λ handle. left-at handle (handle == 0) refl ∙ ap (λ (xs : List ℕ). xs ++ after.left handle) (sym (taken-at input output words before handle f));
+      left = λ handle. left-at handle (handle == 0) refl
+          ∙ ap (λ (xs : List ℕ). xs ++ after.left handle) (sym (taken-at input output words before handle f));
       taken = λ handle. behind (before.taken handle) (after.taken handle) (taken-front handle (handle == 0) refl);
-      written = λ handle. behind (before.written handle) (after.written handle) (written-front handle (handle == 2) (handle == 1) refl refl);
+      written = λ handle. behind (before.written handle) (after.written handle)
+          (written-front handle (handle == 2) (handle == 1) refl refl);
     }
   where
     after : Contents
     after = written_of input output words before
 
-    left-at : (handle : ℕ) (t : Bool) → (handle == 0) ≡ t → before.left handle ≡ seen_at input handle ++ after.left handle
+    left-at : (handle : ℕ) (t : Bool) → (handle == 0) ≡ t →
+        before.left handle ≡ seen_at input handle ++ after.left handle
     left-at handle true e =
         ap before.left (handle-is handle 0 e)
         ∙ (f.1
-        ∙ (ap (λ (xs : List ℕ). input ++ xs) (sym (ap (drop (length input)) f.1 ∙ drop_at input f.0 (length input) refl))
-        ∙ (ap (λ (xs : List ℕ). input ++ xs) (sym (with_entry-at before.left 0 (drop (length input) (before.left 0)) handle e))
+        ∙ (ap (λ (xs : List ℕ). input ++ xs) (sym (ap (drop (length input)) f.1 ∙ drop_at input f.0
+            (length input) refl))
+        ∙ (ap (λ (xs : List ℕ). input ++ xs) (sym (with_entry-at before.left 0 (drop (length input)
+            (before.left 0)) handle e))
         ∙ ap (λ (xs : List ℕ). xs ++ after.left handle) (sym (ap (λ (u : Bool). if u then input else []) e)))))
     left-at handle false e =
         sym (with_entry-other before.left 0 (drop (length input) (before.left 0)) handle e)
@@ -162,10 +196,12 @@ moved input output words before f =
     )
     taken-front handle false e = (
       [],
-      with_entry-other before.taken 0 (before.taken 0 ++ take (length input) (before.left 0)) handle e ∙ sym (append-nil (before.taken handle)),
+      with_entry-other before.taken 0 (before.taken 0 ++ take (length input) (before.left 0)) handle e
+          ∙ sym (append-nil (before.taken handle)),
     )
 
-    written-front : (handle : ℕ) (t u : Bool) → (handle == 2) ≡ t → (handle == 1) ≡ u → IsFront (before.written handle) (after.written handle)
+    written-front : (handle : ℕ) (t u : Bool) → (handle == 2) ≡ t → (handle == 1) ≡ u →
+        IsFront (before.written handle) (after.written handle)
     written-front handle true u e f = (
       words,
       with_entry-at (with_entry before.written 1 (before.written 1 ++ output)) 2 (before.written 2 ++ words) handle e
@@ -174,12 +210,14 @@ moved input output words before f =
     written-front handle false true e f = (
       output,
       with_entry-other (with_entry before.written 1 (before.written 1 ++ output)) 2 (before.written 2 ++ words) handle e
-          ∙ (with_entry-at before.written 1 (before.written 1 ++ output) handle f ∙ ap (λ (n : ℕ). before.written n ++ output) (sym (handle-is handle 1 f))),
+          ∙ (with_entry-at before.written 1 (before.written 1 ++ output) handle f
+              ∙ ap (λ (n : ℕ). before.written n ++ output) (sym (handle-is handle 1 f))),
     )
     written-front handle false false e f = (
       [],
       with_entry-other (with_entry before.written 1 (before.written 1 ++ output)) 2 (before.written 2 ++ words) handle e
-          ∙ (with_entry-other before.written 1 (before.written 1 ++ output) handle f ∙ sym (append-nil (before.written handle))),
+          ∙ (with_entry-other before.written 1 (before.written 1 ++ output) handle f
+              ∙ sym (append-nil (before.written handle))),
     )
 
 -- the handles of a command
@@ -202,7 +240,8 @@ none-read input handle e = ap (λ (xs : List ℕ). seen_at xs handle) e ∙ by_t
     by_test true = refl
     by_test false = refl
 
-unwritten : (output words : List ℕ) (handle : ℕ) → ((handle == 1) || (handle == 2)) ≡ false → written_at output words handle ≡ []
+unwritten : (output words : List ℕ) (handle : ℕ) → ((handle == 1) || (handle == 2)) ≡ false →
+    written_at output words handle ≡ []
 unwritten output words handle e = by_tests (handle == 1) (handle == 2) e
   where
     by_tests : (t u : Bool) → (t || u) ≡ false → (if u then words else (if t then output else [])) ≡ []
@@ -210,9 +249,11 @@ unwritten output words handle e = by_tests (handle == 1) (handle == 2) e
     by_tests false true e = absurd (wrong e)
     by_tests false false e = refl
 
-none-written : (output words : List ℕ) (handle : ℕ) → output ≡ [] → (handle == 2) ≡ false → written_at output words handle ≡ []
+none-written : (output words : List ℕ) (handle : ℕ) → output ≡ [] → (handle == 2) ≡ false →
+    written_at output words handle ≡ []
 none-written output words handle e f =
-    ap (λ (xs : List ℕ). written_at xs words handle) e ∙ (ap (λ (t : Bool). if t then words else (if handle == 1 then [] else [])) f ∙ by_test (handle == 1))
+    ap (λ (xs : List ℕ). written_at xs words handle) e
+        ∙ (ap (λ (t : Bool). if t then words else (if handle == 1 then [] else [])) f ∙ by_test (handle == 1))
   where
     by_test : (t : Bool) → ◌≡◌ {A = List ℕ} (if t then [] else []) []
     by_test true = refl
@@ -220,11 +261,15 @@ none-written output words handle e f =
 
 -- what the caller sees of what was done, the text said behind it
 
-written-behind : (input output tally text : List ℕ) (before : Contents) → after_write 2 text (written_of input output tally before) ≡ written_of input output (tally ++ text) before
-written-behind input output tally text before = after_write-twice 2 tally text (after_write 1 output (after_read 0 (length input) before))
+written-behind : (input output tally text : List ℕ) (before : Contents) →
+    after_write 2 text (written_of input output tally before) ≡ written_of input output (tally ++ text) before
+written-behind input output tally text before = after_write-twice 2 tally text
+    (after_write 1 output (after_read 0 (length input) before))
 
-pub answered : (words : List (List ℕ)) (limit : ℕ) (before mid after : Contents) (reads reads_mid faults faults_mid faults_now : ℕ) (status : Status) (answer : ℕ) (text : List ℕ) →
-    answer ≡ code_of status → RanWords words limit before mid status → Faulted reads reads_mid faults faults_mid status → after ≡ after_write 2 text mid →
+pub answered : (words : List (List ℕ)) (limit : ℕ) (before mid after : Contents)
+    (reads reads_mid faults faults_mid faults_now : ℕ) (status : Status) (answer : ℕ) (text : List ℕ) →
+    answer ≡ code_of status → RanWords words limit before mid status →
+        Faulted reads reads_mid faults faults_mid status → after ≡ after_write 2 text mid →
     Says (Rose faults_mid faults_now) text (text_of status) → (text ≡ text_of status → faults_now ≡ faults_mid) →
     Answered words limit before after faults faults_now answer
 answered words limit before mid after reads reads_mid faults faults_mid faults_now status answer text number r fault wrote says told =
@@ -239,21 +284,27 @@ answered words limit before mid after reads reads_mid faults faults_mid faults_n
           let n = r.nothing e in
           record {
             keeps = record {
-              unread = λ handle f. taken-at r.input r.output (r.tally ++ text) before handle r.front ∙ none-read r.input handle n.0;
-              unwritten = λ handle f. added-at r.input r.output (r.tally ++ text) before handle ∙ none-written r.output (r.tally ++ text) handle n.1 f;
+              unread = λ handle f. taken-at r.input r.output (r.tally ++ text) before handle r.front
+                  ∙ none-read r.input handle n.0;
+              unwritten = λ handle f. added-at r.input r.output (r.tally ++ text) before handle
+                  ∙ none-written r.output (r.tally ++ text) handle n.1 f;
             };
             no_tally = n.2;
           };
       did = λ c m.
           record {
             keeps = record {
-              unread = λ handle f. taken-at r.input r.output (r.tally ++ text) before handle r.front ∙ unread r.input handle (only_reads c handle f);
-              unwritten = λ handle f. added-at r.input r.output (r.tally ++ text) before handle ∙ unwritten r.output (r.tally ++ text) handle (only_writes c handle f);
+              unread = λ handle f. taken-at r.input r.output (r.tally ++ text) before handle r.front
+                  ∙ unread r.input handle (only_reads c handle f);
+              unwritten = λ handle f. added-at r.input r.output (r.tally ++ text) before handle
+                  ∙ unwritten r.output (r.tally ++ text) handle (only_writes c handle f);
             };
             within = subst (λ (xs : List ℕ). length xs ≤ limit) (sym input) r.within;
             ends =
-                subst (λ (xs : List ℕ). EndsAs c limit (before.left 0) xs (added_to 1 before all_written) r.tally status) (sym input)
-                (subst (λ (xs : List ℕ). EndsAs c limit (before.left 0) r.input xs r.tally status) (sym output) (r.ends c m));
+                subst (λ (xs : List ℕ). EndsAs c limit (before.left 0) xs
+                    (added_to 1 before all_written) r.tally status) (sym input)
+                (subst (λ (xs : List ℕ). EndsAs c limit (before.left 0) r.input xs r.tally status) (sym output)
+                    (r.ends c m));
           };
       on_error = added-at r.input r.output (r.tally ++ text) before 2;
       text = says-earlier faults faults_mid faults_now status text reads reads_mid fault says;
@@ -283,16 +334,19 @@ answered words limit before mid after reads reads_mid faults faults_mid faults_n
     by_told (Stopped Refused) = inl refl
     by_told (Stopped TooLong) = inr refl
 
-    rose-more : (before mid now : ℕ) (s : Status) (reads reads_mid : ℕ) → Faulted reads reads_mid before mid s → Rose mid now → Rose (before + faults_told s) now
+    rose-more : (before mid now : ℕ) (s : Status) (reads reads_mid : ℕ) → Faulted reads reads_mid before mid s →
+        Rose mid now → Rose (before + faults_told s) now
     rose-more before mid now s reads reads_mid f r = elim (by_told s) [
       | inl e ↦ (let one : faults_told s ≡ 1 = ap faults_told e in omega (arith, r, f.write e, one))
       | inr none ↦ omega (arith, r, f.writes_later, none)
     ]
 
-    says-earlier : (before mid now : ℕ) (s : Status) (text : List ℕ) (reads reads_mid : ℕ) → Faulted reads reads_mid before mid s → Says (Rose mid now) text (text_of s) →
+    says-earlier : (before mid now : ℕ) (s : Status) (text : List ℕ) (reads reads_mid : ℕ) →
+        Faulted reads reads_mid before mid s → Says (Rose mid now) text (text_of s) →
         Says (Rose (before + faults_told s) now) text (text_of s)
     says-earlier before mid now s text reads reads_mid f says =
-        record { front = says.front; all = elim says.all [ inl e ↦ inl e | inr r ↦ inr (rose-more before mid now s reads reads_mid f r) ] }
+        record { front = says.front; all = elim says.all [ inl e ↦ inl e | inr r ↦ inr
+            (rose-more before mid now s reads reads_mid f r) ] }
 
 -- a command that was carried out is what its words mean
 
@@ -307,39 +361,48 @@ ran-words c words limit before after status m may r =
       front = r.front;
       nothing = λ e. absurd (subst (MayAnswer c) e may);
       within = r.within;
-      ends = λ d n. subst (λ (x : Command). EndsAs x limit (before.left 0) r.input r.output r.tally status) (one_command words c d m n) r.ends;
+      ends = λ d n. subst (λ (x : Command). EndsAs x limit (before.left 0) r.input r.output r.tally status)
+          (one_command words c d m n) r.ends;
     }
 
-pub ran-usage : (words : List (List ℕ)) (limit : ℕ) (before : Contents) → ((c : Command) → Means words c → ⊥) → RanWords words limit before before Usage
+pub ran-usage : (words : List (List ℕ)) (limit : ℕ) (before : Contents) → ((c : Command) → Means words c → ⊥) →
+    RanWords words limit before before Usage
 ran-usage words limit before none =
     record {
       input = [];
       output = [];
       tally = [];
-      contents = sym (after_write-none 2 (after_write 1 [] (after_read 0 0 before)) ∙ (after_write-none 1 (after_read 0 0 before) ∙ after_read-none 0 before));
+      contents = sym (after_write-none 2 (after_write 1 [] (after_read 0 0 before))
+          ∙ (after_write-none 1 (after_read 0 0 before) ∙ after_read-none 0 before));
       front = (before.left 0, refl);
       nothing = λ e. (refl, refl, refl);
       within = omega arith;
       ends = λ c m. absurd (none c m);
     }
 
-pub may-words : (c : Command) (words : List (List ℕ)) (status : Status) → Means words c → MayAnswer c status → MayAnswerWords words status
-may-words c words status m may = record { usage = λ e. absurd (subst (MayAnswer c) e may); other = λ not_usage. (c, m, may) }
+pub may-words : (c : Command) (words : List (List ℕ)) (status : Status) → Means words c → MayAnswer c status →
+    MayAnswerWords words status
+may-words c words status m may = record { usage = λ e. absurd (subst (MayAnswer c) e may); other = λ not_usage.
+    (c, m, may) }
 
 -- what the answer says of a command
 
-pub ends-at_status : (words : List (List ℕ)) (limit : ℕ) (before after : Contents) (faults faults_now answer : ℕ) (c : Command) (status : Status) →
+pub ends-at_status : (words : List (List ℕ)) (limit : ℕ) (before after : Contents) (faults faults_now answer : ℕ)
+    (c : Command) (status : Status) →
     answer ≡ code_of status → Means words c → (a : Answered words limit before after faults faults_now answer) →
     EndsAs c limit (before.left 0) (taken_off 0 before after) (added_to 1 before after) a.tally status
 ends-at_status words limit before after faults faults_now answer c status e m a =
-    subst (EndsAs c limit (before.left 0) (taken_off 0 before after) (added_to 1 before after) a.tally) (same_status a.status status (sym a.number ∙ e)) (a.did c m).ends
+    subst (EndsAs c limit (before.left 0) (taken_off 0 before after) (added_to 1 before after) a.tally)
+        (same_status a.status status (sym a.number ∙ e)) (a.did c m).ends
 
-pub went_through : (words : List (List ℕ)) (limit : ℕ) (before after : Contents) (faults faults_now answer : ℕ) (c : Command) →
+pub went_through : (words : List (List ℕ)) (limit : ℕ) (before after : Contents) (faults faults_now answer : ℕ)
+    (c : Command) →
     read_all answer ≡ true → Means words c → (a : Answered words limit before after faults faults_now answer) →
     WentThrough c limit (before.left 0) (taken_off 0 before after) (added_to 1 before after) a.tally
 went_through words limit before after faults faults_now answer c all m a =
     at_the_end
-    (λ s. EndsAs c limit (before.left 0) (taken_off 0 before after) (added_to 1 before after) a.tally s → WentThrough c limit (before.left 0) (taken_off 0 before after) (added_to 1 before after) a.tally)
+    (λ s. EndsAs c limit (before.left 0) (taken_off 0 before after) (added_to 1 before after) a.tally s →
+        WentThrough c limit (before.left 0) (taken_off 0 before after) (added_to 1 before after) a.tally)
     (λ ends. ends.0) (λ ends. ends.0) (λ ends. ends.0) a.status (sym (ap read_all a.number) ∙ all) (a.did c m).ends
 
 is_whole-of : (c : Command) (s : Spec) (input : List ℕ) → ReadsOne c s → is_whole c input ≡ whole s input
@@ -347,12 +410,15 @@ is_whole-of (Converting tally first between last) s input e = ap (λ (t : Spec).
 is_whole-of (Listing traced t) s input e = ap (λ (u : Spec). whole u input) (sym e)
 
 -- at the end, it is 5 exactly where the input stops inside a packet
-pub cut-at_end : (words : List (List ℕ)) (limit : ℕ) (before after : Contents) (faults faults_now answer : ℕ) (c : Command) (s : Spec) → ReadsOne c s →
-    read_all answer ≡ true → Means words c → (a : Answered words limit before after faults faults_now answer) → (answer ≡ 5) ↔ (whole s (before.left 0) ≡ false)
+pub cut-at_end : (words : List (List ℕ)) (limit : ℕ) (before after : Contents) (faults faults_now answer : ℕ)
+    (c : Command) (s : Spec) → ReadsOne c s →
+    read_all answer ≡ true → Means words c → (a : Answered words limit before after faults faults_now answer) →
+        (answer ≡ 5) ↔ (whole s (before.left 0) ≡ false)
 cut-at_end words limit before after faults faults_now answer c s reads all m a =
     subst (λ (n : ℕ). (n ≡ 5) ↔ (whole s (before.left 0) ≡ false)) (sym a.number)
     (at_the_end
-    (λ t. EndsAs c limit (before.left 0) (taken_off 0 before after) (added_to 1 before after) a.tally t → (code_of t ≡ 5) ↔ (whole s (before.left 0) ≡ false))
+    (λ t. EndsAs c limit (before.left 0) (taken_off 0 before after) (added_to 1 before after) a.tally t →
+        (code_of t ≡ 5) ↔ (whole s (before.left 0) ≡ false))
     (λ ends. (λ n. absurd (omega (arith, n)), λ h. absurd (wrong (sym (ends.1) ∙ cut h))))
     (λ ends. (λ n. absurd (omega (arith, n)), λ h. absurd (wrong (sym (ends.1) ∙ cut h))))
     (λ ends. (λ n. sym same ∙ ends.1, λ h. refl))
@@ -368,9 +434,11 @@ cut-at_end words limit before after faults faults_now answer c s reads all m a =
     cut h = same ∙ h
 
 -- an answer that is none of the others comes at the end
-pub reads_all : (words : List (List ℕ)) (limit : ℕ) (before after : Contents) (reads writes : Type 0) (status : Status) (c : Command) →
+pub reads_all : (words : List (List ℕ)) (limit : ℕ) (before after : Contents) (reads writes : Type 0)
+    (status : Status) (c : Command) →
     Means words c → MayAnswerWords words status → may_want_memory c ≡ false →
-    (status ≡ Stopped ReadFault → reads) → (status ≡ Stopped Refused → writes) → (reads → ⊥) → (writes → ⊥) → length (before.left 0) < limit →
+    (status ≡ Stopped ReadFault → reads) → (status ≡ Stopped Refused → writes) → (reads → ⊥) → (writes → ⊥) →
+        length (before.left 0) < limit →
     RanWords words limit before after status → read_all (code_of status) ≡ true
 reads_all words limit before after reads writes Done c m may w r f nr nw short ran = refl
 reads_all words limit before after reads writes Noted c m may w r f nr nw short ran = refl
@@ -385,28 +453,36 @@ reads_all words limit before after reads writes (Stopped TooLong) c m may w r f 
     absurd (omega (arith, short, (ran.ends c m).0, ap length (ran.front).1, length-append ran.input (ran.front).0))
 
 -- of a conversion of a whole input, that is 0
-pub completes : (words : List (List ℕ)) (limit : ℕ) (before after : Contents) (faults faults_now answer : ℕ) (tally : Bool) (first : Spec) (between : List Spec) (last : Spec) →
-    read_all answer ≡ true → Means words (Converting tally first between last) → whole first (before.left 0) ≡ true → Answered words limit before after faults faults_now answer → answer ≡ 0
+pub completes : (words : List (List ℕ)) (limit : ℕ) (before after : Contents) (faults faults_now answer : ℕ)
+    (tally : Bool) (first : Spec) (between : List Spec) (last : Spec) →
+    read_all answer ≡ true → Means words (Converting tally first between last) → whole first (before.left 0) ≡ true →
+        Answered words limit before after faults faults_now answer → answer ≡ 0
 completes words limit before after faults faults_now answer tally first between last all m is a =
     a.number
     ∙ at_the_end
-    (λ t. EndsAs (Converting tally first between last) limit (before.left 0) (taken_off 0 before after) (added_to 1 before after) a.tally t → code_of t ≡ 0)
-    (λ ends. refl) (λ ends. absurd (ends.2)) (λ ends. absurd (wrong (sym is ∙ (ap (whole first) (ends.0).all ∙ ends.1))))
+    (λ t. EndsAs (Converting tally first between last) limit (before.left 0) (taken_off 0 before after)
+        (added_to 1 before after) a.tally t → code_of t ≡ 0)
+    (λ ends. refl) (λ ends. absurd (ends.2))
+        (λ ends. absurd (wrong (sym is ∙ (ap (whole first) (ends.0).all ∙ ends.1))))
     a.status (sym (ap read_all a.number) ∙ all) ((a.did (Converting tally first between last) m).ends)
 
 -- statuses that only some commands have
 
-pub means-noted : (words : List (List ℕ)) (c : Command) → Means words c → answers_notes c ≡ true → (s : Spec) × Means words (Listing false s)
+pub means-noted : (words : List (List ℕ)) (c : Command) → Means words c → answers_notes c ≡ true → (s : Spec) ×
+    Means words (Listing false s)
 means-noted words (Converting tally first between last) m e = absurd (wrong (sym e))
 means-noted words (Listing true s) m e = absurd (wrong (sym e))
 means-noted words (Listing false s) m e = (s, m)
 
-pub is_canonical : (first : Spec) (between : List Spec) (last : Spec) (read written : List ℕ) → last ≡ Din → written ≡ through first between last read → through Din [] Din written ≡ written
+pub is_canonical : (first : Spec) (between : List Spec) (last : Spec) (read written : List ℕ) → last ≡ Din →
+    written ≡ through first between last read → through Din [] Din written ≡ written
 is_canonical first between last read written byte_line e =
-    let same : written ≡ through first between Din read = e ∙ ap (λ (s : Spec). through first between s read) byte_line in
+    let same : written ≡ through first between Din read = e
+        ∙ ap (λ (s : Spec). through first between s read) byte_line in
     ap (through Din [] Din) same ∙ (through-canonical first between read ∙ sym same)
 
-pub usage_only : (words : List (List ℕ)) (status : Status) (answer : ℕ) → answer ≡ code_of status → MayAnswerWords words status → (answer ≡ 2) ↔ ((c : Command) → Means words c → ⊥)
+pub usage_only : (words : List (List ℕ)) (status : Status) (answer : ℕ) → answer ≡ code_of status →
+    MayAnswerWords words status → (answer ≡ 2) ↔ ((c : Command) → Means words c → ⊥)
 usage_only words status answer number may = (
   λ two. may.usage (same_status status Usage (sym number ∙ two)),
   λ none. number ∙ by_status status may none,
@@ -426,24 +502,29 @@ usage_only words status answer number may = (
     by_status NoMemory may none = absurd (meant NoMemory may none (other_status NoMemory Usage (λ e. omega (arith, e))))
     by_status (Stopped stop) may none = absurd (meant (Stopped stop) may none (λ e. not_stopped stop e))
 
-pub is_meant : (words : List (List ℕ)) (status : Status) (answer : ℕ) → answer ≡ code_of status → MayAnswerWords words status → (answer ≡ 2 → ⊥) → (c : Command) × Means words c
+pub is_meant : (words : List (List ℕ)) (status : Status) (answer : ℕ) → answer ≡ code_of status →
+    MayAnswerWords words status → (answer ≡ 2 → ⊥) → (c : Command) × Means words c
 is_meant words status answer number may other = let m = may.other (λ e. other (number ∙ ap code_of e)) in (m.0, m.1)
 
 -- the same of desks that tell nothing
 
-pub read_faults : (reads reads_mid reads_now writes writes_mid : ℕ) (status : Status) (answer : ℕ) → answer ≡ code_of status → reads_now ≡ reads_mid → Faulted reads reads_mid writes writes_mid status →
+pub read_faults : (reads reads_mid reads_now writes writes_mid : ℕ) (status : Status) (answer : ℕ) →
+    answer ≡ code_of status → reads_now ≡ reads_mid → Faulted reads reads_mid writes writes_mid status →
     (answer ≡ 3 → Rose reads reads_now) × ((answer ≡ 3 → ⊥) → reads_now ≡ reads)
 read_faults reads reads_mid reads_now writes writes_mid status answer number same f = (
-  λ three. subst (λ (n : ℕ). Rose reads n) (sym same) (f.read (same_status status (Stopped ReadFault) (sym number ∙ three))),
+  λ three. subst (λ (n : ℕ). Rose reads n) (sym same)
+      (f.read (same_status status (Stopped ReadFault) (sym number ∙ three))),
   λ other. same ∙ f.unread (λ e. other (number ∙ ap code_of e)),
 )
 
-pub write_fault : (reads reads_mid writes writes_mid writes_now : ℕ) (status : Status) (answer : ℕ) → answer ≡ code_of status → writes_mid ≤ writes_now → Faulted reads reads_mid writes writes_mid status →
+pub write_fault : (reads reads_mid writes writes_mid writes_now : ℕ) (status : Status) (answer : ℕ) →
+    answer ≡ code_of status → writes_mid ≤ writes_now → Faulted reads reads_mid writes writes_mid status →
     answer ≡ 4 → Rose writes writes_now
 write_fault reads reads_mid writes writes_mid writes_now status answer number later f four =
     omega (arith, f.write (same_status status (Stopped Refused) (sym number ∙ four)), later)
 
-pub no_write_fault : (reads reads_mid writes writes_mid writes_now : ℕ) (status : Status) (answer : ℕ) → answer ≡ code_of status → (text_of status ≡ [] → writes_now ≡ writes_mid) →
+pub no_write_fault : (reads reads_mid writes writes_mid writes_now : ℕ) (status : Status) (answer : ℕ) →
+    answer ≡ code_of status → (text_of status ≡ [] → writes_now ≡ writes_mid) →
     Faulted reads reads_mid writes writes_mid status → (answer ≡ 0) ⊎ (answer ≡ 1) → writes_now ≡ writes
 no_write_fault reads reads_mid writes writes_mid writes_now status answer number quiet f e = elim e [
   | inl zero ↦ by_status Done (same_status status Done (sym number ∙ zero)) refl (λ h. omega (arith, h))
@@ -453,14 +534,16 @@ no_write_fault reads reads_mid writes writes_mid writes_now status answer number
     by_status : (s : Status) → status ≡ s → text_of s ≡ [] → (code_of s ≡ 4 → ⊥) → writes_now ≡ writes
     by_status s same none other = quiet (ap text_of same ∙ none) ∙ f.unwritten (λ e. other (ap code_of (sym same ∙ e)))
 
-pub wants_memory : (words : List (List ℕ)) (status : Status) (answer : ℕ) → answer ≡ code_of status → MayAnswerWords words status → answer ≡ 9 →
+pub wants_memory : (words : List (List ℕ)) (status : Status) (answer : ℕ) → answer ≡ code_of status →
+    MayAnswerWords words status → answer ≡ 9 →
     (c : Command) × Means words c × (may_want_memory c ≡ true)
 wants_memory words status answer number may nine =
     let same = same_status status NoMemory (sym number ∙ nine) in
     let m = may.other (other_status status Usage (λ e. omega (arith, number, nine, e))) in
     (m.0, m.1, subst (MayAnswer m.0) same m.2)
 
-pub noted_alone : (words : List (List ℕ)) (status : Status) (answer : ℕ) → answer ≡ code_of status → MayAnswerWords words status → answer ≡ 1 → (s : Spec) × Means words (Listing false s)
+pub noted_alone : (words : List (List ℕ)) (status : Status) (answer : ℕ) → answer ≡ code_of status →
+    MayAnswerWords words status → answer ≡ 1 → (s : Spec) × Means words (Listing false s)
 noted_alone words status answer number may one =
     let same = same_status status Noted (sym number ∙ one) in
     let m = may.other (other_status status Usage (λ e. omega (arith, number, one, e))) in

@@ -1,5 +1,6 @@
 -- A command on its way, over a desk that tells its contents.
-use Rattle.std.proofs.Common.{◌≡◌, Bool, IsTrue, ℕ, ◌+◌, ◌-◌, ◌<◌, ◌≤◌, true, false, not, List, ◌++◌, [], map, length, take, drop, refl, inl, inr, sym, ◌∙◌, ap, subst, append_assoc, arith, length-append}
+use Rattle.std.proofs.Common.{◌≡◌, Bool, IsTrue, ℕ, ◌+◌, ◌-◌, ◌<◌, ◌≤◌, true, false, not, List, ◌++◌, [], map, length,
+    take, drop, refl, inl, inr, sym, ◌∙◌, ap, subst, append_assoc, arith, length-append}
 use Rattle.std.proofs.lemmas.List.{append-nil, take-append-drop, drop_at, length-take-le, take-append-le}
 use Rattle.mb_outside.specs.Contents.{Contents, Gives, after_read, after_write}
 use Rattle.mb_outside.specs.ContentsLaws.{after_read-none, after_read-twice, after_write-none, after_write-twice}
@@ -51,7 +52,8 @@ so_far-none c before =
 left_behind : (bytes left : List ℕ) → (f : IsFront bytes left) → drop (length bytes) left ≡ f.0
 left_behind bytes left f = ap (drop (length bytes)) f.1 ∙ drop_at bytes f.0 (length bytes) refl
 
-pub left-now : (c : Command) (before now : Contents) (bytes : List ℕ) → (s : SoFar c before now bytes) → now.left 0 ≡ (s.front).0
+pub left-now : (c : Command) (before now : Contents) (bytes : List ℕ) → (s : SoFar c before now bytes) →
+    now.left 0 ≡ (s.front).0
 left-now c before now bytes s = ap (λ (c : Contents). c.left 0) s.contents ∙ left_behind bytes (before.left 0) s.front
 
 -- a piece was read
@@ -69,13 +71,16 @@ read-piece c before old now bytes buffer piece count s g cut =
     record {
       front = (
         drop count (s.front).0,
-        (s.front).1 ∙ (ap (λ xs. bytes ++ xs) (sym (take-append-drop count (s.front).0) ∙ ap (λ xs. xs ++ drop count (s.front).0) (sym piece_is)) ∙ sym (append_assoc bytes piece (drop count (s.front).0))),
+        (s.front).1 ∙ (ap (λ xs. bytes ++ xs) (sym (take-append-drop count (s.front).0) ∙ ap (λ xs. xs ++ drop count
+            (s.front).0) (sym piece_is)) ∙ sym (append_assoc bytes piece (drop count (s.front).0))),
       );
       contents =
           g.contents
           ∙ (ap (after_read 0 count) s.contents
           ∙ (ap (after_write 1 (live_output_of c bytes))
-          (after_read-twice 0 count (length bytes) before ∙ ap (λ (n : ℕ). after_read 0 n before) (sym (length-append bytes piece ∙ ap (λ n. length bytes + n) size)))));
+          (after_read-twice 0 count (length bytes) before
+              ∙ ap (λ (n : ℕ). after_read 0 n before)
+              (sym (length-append bytes piece ∙ ap (λ n. length bytes + n) size)))));
     }
 
 -- the next piece was written
@@ -94,8 +99,10 @@ so_far-more c before old now bytes piece given r wrote beyond =
     }
 
 -- the same with nothing told of a tally
-quietly : (input output : List ℕ) (before now : Contents) → now ≡ after_write 1 output (after_read 0 (length input) before) → now ≡ written_of input output [] before
-quietly input output before now e = e ∙ sym (after_write-none 2 (after_write 1 output (after_read 0 (length input) before)))
+quietly : (input output : List ℕ) (before now : Contents) →
+    now ≡ after_write 1 output (after_read 0 (length input) before) → now ≡ written_of input output [] before
+quietly input output before now e = e ∙ sym (after_write-none 2 (after_write 1 output (after_read 0
+    (length input) before)))
 
 -- between two pieces reading failed, or the limit was reached
 pub ran-read_fault : (c : Command) (limit : ℕ) (before now : Contents) (bytes : List ℕ) →
@@ -110,15 +117,18 @@ ran-too_long c limit before now bytes same s =
 
 -- the end was read
 pub at-end : (c : Command) (before old now : Contents) (bytes buffer : List ℕ) (count : ℕ) →
-    SoFar c before old bytes → Gives old now 0 count buffer → count ≡ 0 → 0 < length buffer → (SoFar c before now bytes) × (before.left 0 ≡ bytes)
+    SoFar c before old bytes → Gives old now 0 count buffer → count ≡ 0 → 0 < length buffer →
+        (SoFar c before now bytes) × (before.left 0 ≡ bytes)
 at-end c before old now bytes buffer count s g none room = (
-  record { front = s.front; contents = ((g.contents ∙ ap (λ (n : ℕ). after_read 0 n old) none) ∙ after_read-none 0 old) ∙ s.contents },
+  record { front = s.front; contents = ((g.contents ∙ ap (λ (n : ℕ). after_read 0 n old) none)
+      ∙ after_read-none 0 old) ∙ s.contents },
   (s.front).1 ∙ (ap (λ xs. bytes ++ xs) (sym (left-now c before old bytes s) ∙ g.ends none room) ∙ append-nil bytes),
 )
 
 -- what the end did, behind what was written before
 pub ran-end : (c d : Command) (limit : ℕ) (before old now : Contents) (bytes : List ℕ) (status : Status) →
-    d ≡ c → length bytes < limit → SoFar c before old bytes → before.left 0 ≡ bytes → RanEnd d bytes old now status → Ran c limit before now status
+    d ≡ c → length bytes < limit → SoFar c before old bytes → before.left 0 ≡ bytes → RanEnd d bytes old now status →
+        Ran c limit before now status
 ran-end c d limit before old now bytes status same below s all r =
     record {
       input = bytes;
@@ -126,24 +136,31 @@ ran-end c d limit before old now bytes status same below s all r =
       tally = r.tally;
       contents =
           r.contents
-          ∙ ap (after_write 2 r.tally) (ap (after_write 1 r.output) s.contents ∙ after_write-twice 1 (live_output_of c bytes) r.output (after_read 0 (length bytes) before));
+          ∙ ap (after_write 2 r.tally) (ap (after_write 1 r.output) s.contents
+              ∙ after_write-twice 1 (live_output_of c bytes) r.output (after_read 0 (length bytes) before));
       front = s.front;
       within = omega (arith, below);
       ends =
           subst (λ (xs : List ℕ). EndsAs c limit xs bytes (live_output_of c bytes ++ r.output) r.tally status) (sym all)
-          (subst (λ (x : Command). EndsAs x limit bytes bytes (live_output_of x bytes ++ r.output) r.tally status) same (r.ends limit below));
+          (subst (λ (x : Command). EndsAs x limit bytes bytes
+              (live_output_of x bytes ++ r.output) r.tally status) same (r.ends limit below));
     }
 
 -- the answer at the end, by whether the input is cut and whether it was remarked
-ends-at : (c : Command) (limit : ℕ) (left input output tally : List ℕ) (cut noted : Bool) → WentThrough c limit left input output tally → cut ≡ not (is_whole c input) →
+ends-at : (c : Command) (limit : ℕ) (left input output tally : List ℕ) (cut noted : Bool) →
+    WentThrough c limit left input output tally → cut ≡ not (is_whole c input) →
     Remarked noted c input → EndsAs c limit left input output tally (at_end cut noted)
 ends-at c limit left input output tally true noted w is_cut remarked = (w, not-true (is_whole c input) is_cut)
-ends-at c limit left input output tally false true w is_cut remarked = (w, not-false (is_whole c input) is_cut, remarked)
-ends-at c limit left input output tally false false w is_cut remarked = (w, not-false (is_whole c input) is_cut, remarked)
+ends-at c limit left input output tally false true w is_cut remarked =
+    (w, not-false (is_whole c input) is_cut, remarked)
+ends-at c limit left input output tally false false w is_cut remarked =
+    (w, not-false (is_whole c input) is_cut, remarked)
 
-pub end-ran : (c d : Command) (before mid now : Contents) (bytes : List ℕ) (was done : List ℕ → Type 0) (cut noted : Bool) (took tells : List ℕ → Type 0) (status : Status) →
+pub end-ran : (c d : Command) (before mid now : Contents) (bytes : List ℕ) (was done : List ℕ → Type 0)
+    (cut noted : Bool) (took tells : List ℕ → Type 0) (status : Status) →
     d ≡ c → status ≡ at_end cut noted → was bytes → cut ≡ not (is_whole c bytes) →
-    (e : JobEnded c was done noted took) → mid ≡ after_write 1 e.given before → (t : JobTold d done tells) → now ≡ after_write 2 t.given mid → RanEnd c bytes before now status
+    (e : JobEnded c was done noted took) → mid ≡ after_write 1 e.given before → (t : JobTold d done tells) →
+        now ≡ after_write 2 t.given mid → RanEnd c bytes before now status
 end-ran c d before mid now bytes was done cut noted took tells status same_command same stands is_cut e wrote t told =
     record {
       output = e.given;
@@ -158,13 +175,16 @@ end-ran c d before mid now bytes was done cut noted took tells status same_comma
             tally_is = t.tally bytes (e.stands bytes stands) ∙ ap (λ (x : Command). tally_of x bytes) same_command;
           } in
           subst (λ (x : Status). EndsAs c limit bytes bytes (live_output_of c bytes ++ e.given) t.given x) (sym same)
-          (ends-at c limit bytes bytes (live_output_of c bytes ++ e.given) t.given cut noted w is_cut (e.notes bytes stands));
+          (ends-at c limit bytes bytes (live_output_of c bytes ++ e.given) t.given cut noted w is_cut
+              (e.notes bytes stands));
     }
 
 -- notes are answered of a command that answers them
-pub may-end : (c : Command) (was done : List ℕ → Type 0) (cut noted : Bool) (took : List ℕ → Type 0) (status : Status) (bytes : List ℕ) →
+pub may-end : (c : Command) (was done : List ℕ → Type 0) (cut noted : Bool) (took : List ℕ → Type 0) (status : Status)
+    (bytes : List ℕ) →
     status ≡ at_end cut noted → was bytes → JobEnded c was done noted took → MayAnswer c status
-may-end c was done cut noted took status bytes same stands e = subst (MayAnswer c) (sym same) (by_tests c cut noted (e.notes bytes stands))
+may-end c was done cut noted took status bytes same stands e = subst (MayAnswer c) (sym same)
+    (by_tests c cut noted (e.notes bytes stands))
   where
     by_tests : (c : Command) (cut noted : Bool) → Remarked noted c bytes → MayAnswer c (at_end cut noted)
     by_tests c true noted h = tt
@@ -173,7 +193,8 @@ may-end c was done cut noted took status bytes same stands e = subst (MayAnswer 
     by_tests (Listing true s) false true h = absurd h
     by_tests (Listing false s) false true h = refl
 
-pub cut-at : (d c : Command) (cut : Bool) (bytes : List ℕ) → d ≡ c → cut ≡ not (is_whole d bytes) → cut ≡ not (is_whole c bytes)
+pub cut-at : (d c : Command) (cut : Bool) (bytes : List ℕ) → d ≡ c → cut ≡ not (is_whole d bytes) →
+    cut ≡ not (is_whole c bytes)
 cut-at d c cut bytes same h = h ∙ ap (λ (x : Command). not (is_whole x bytes)) same
 
 -- a front of some bytes is written in what is written of them
@@ -187,18 +208,23 @@ all_but_last-front : (bytes piece : List ℕ) → length piece ≤ PIECE → IsF
 all_but_last-front bytes piece few =
     let n = length (bytes ++ piece) - PIECE in
     let short : length (bytes ++ piece) - PIECE ≤ length bytes = omega (arith, length-append bytes piece) in
-    (drop n bytes, sym (take-append-drop n bytes) ∙ ap (λ xs. xs ++ drop n bytes) (sym (take-append-le n bytes piece short)))
+    (drop n bytes, sym (take-append-drop n bytes)
+        ∙ ap (λ xs. xs ++ drop n bytes) (sym (take-append-le n bytes piece short)))
 
 all_but_last-own : (bytes : List ℕ) → IsFront (all_but_last PIECE bytes) bytes
 all_but_last-own bytes = (drop (length bytes - PIECE) bytes, sym (take-append-drop (length bytes - PIECE) bytes))
 
 -- what is known of all but the last bytes was written
-known-front : (c : Command) (bytes given : List ℕ) → IsFront (live_output_of c (all_but_last PIECE bytes)) (live_output_of c bytes ++ given)
-known-front c bytes given = front-then _ _ _ (live-front c (all_but_last PIECE bytes) bytes (all_but_last-own bytes)) (given, refl)
+known-front : (c : Command) (bytes given : List ℕ) →
+    IsFront (live_output_of c (all_but_last PIECE bytes)) (live_output_of c bytes ++ given)
+known-front c bytes given = front-then _ _ _ (live-front c (all_but_last PIECE bytes) bytes (all_but_last-own bytes))
+    (given, refl)
 
 -- the end was refused
-pub end-halted : (c : Command) (before now : Contents) (bytes : List ℕ) (was : List ℕ → Type 0) (took : List ℕ → Type 0) →
-    was bytes → (h : JobEndHalted c was took) → now ≡ after_write 1 h.given before → RanEnd c bytes before now (Stopped Refused)
+pub end-halted : (c : Command) (before now : Contents) (bytes : List ℕ) (was : List ℕ → Type 0)
+    (took : List ℕ → Type 0) →
+    was bytes → (h : JobEndHalted c was took) → now ≡ after_write 1 h.given before →
+        RanEnd c bytes before now (Stopped Refused)
 end-halted c before now bytes was took stands h wrote =
     record {
       output = h.given;
@@ -214,8 +240,10 @@ end-halted c before now bytes was took stands h wrote =
     }
 
 -- the tally was refused
-pub tell-halted : (c d : Command) (before mid now : Contents) (bytes : List ℕ) (was done : List ℕ → Type 0) (noted : Bool) (took tells : List ℕ → Type 0) →
-    d ≡ c → was bytes → (e : JobEnded c was done noted took) → mid ≡ after_write 1 e.given before → (h : JobTellHalted d done tells) → now ≡ after_write 2 h.given mid →
+pub tell-halted : (c d : Command) (before mid now : Contents) (bytes : List ℕ) (was done : List ℕ → Type 0)
+    (noted : Bool) (took tells : List ℕ → Type 0) →
+    d ≡ c → was bytes → (e : JobEnded c was done noted took) → mid ≡ after_write 1 e.given before →
+        (h : JobTellHalted d done tells) → now ≡ after_write 2 h.given mid →
     RanEnd c bytes before now (Stopped Refused)
 tell-halted c d before mid now bytes was done noted took tells same_command stands e wrote h told =
     record {
@@ -227,7 +255,8 @@ tell-halted c d before mid now bytes was done noted took tells same_command stan
         known = known-front c bytes e.given;
         tally_front = part-front _ _ (tally_part same_command (h.part bytes (e.stands bytes stands)));
         behind = inr (sym (e.beyond bytes stands));
-        unfinished = λ all told_all. part-differs _ _ (tally_part same_command (h.part bytes (e.stands bytes stands))) told_all;
+        unfinished = λ all told_all. part-differs _ _
+            (tally_part same_command (h.part bytes (e.stands bytes stands))) told_all;
       };
     }
   where
@@ -236,7 +265,8 @@ tell-halted c d before mid now bytes was done noted took tells same_command stan
 
 -- a piece was refused
 pub ran-halted : (c : Command) (limit count : ℕ) (before old now : Contents) (bytes piece given : List ℕ) →
-    length piece ≡ count → length bytes + count ≤ limit → count ≤ PIECE → Read c before old bytes piece → now ≡ after_write 1 given old →
+    length piece ≡ count → length bytes + count ≤ limit → count ≤ PIECE → Read c before old bytes piece →
+        now ≡ after_write 1 given old →
     IsPart (live_output_of c bytes ++ given) (live_output_of c (bytes ++ piece)) →
     Ran c limit before now (Stopped Refused)
 ran-halted c limit count before old now bytes piece given size within few s wrote part =
@@ -246,12 +276,14 @@ ran-halted c limit count before old now bytes piece given size within few s wrot
       tally = [];
       contents =
           quietly (bytes ++ piece) _ before now
-          (wrote ∙ (ap (after_write 1 given) s.contents ∙ after_write-twice 1 (live_output_of c bytes) given (after_read 0 (length (bytes ++ piece)) before)));
+          (wrote ∙ (ap (after_write 1 given) s.contents
+              ∙ after_write-twice 1 (live_output_of c bytes) given (after_read 0 (length (bytes ++ piece)) before)));
       front = s.front;
       within = omega (arith, length-append bytes piece, size);
       ends = record {
         front = part-front _ _ whole;
-        known = front-then _ _ _ (live-front c (all_but_last PIECE (bytes ++ piece)) bytes (all_but_last-front bytes piece (omega (arith, size)))) (given, refl);
+        known = front-then _ _ _ (live-front c (all_but_last PIECE (bytes ++ piece)) bytes
+            (all_but_last-front bytes piece (omega (arith, size)))) (given, refl);
         tally_front = (tally_of c (bytes ++ piece), refl);
         behind = inl refl;
         unfinished = λ all told. part-differs _ _ whole all;
@@ -262,26 +294,32 @@ ran-halted c limit count before old now bytes piece given size within few s wrot
     whole = part-within _ _ _ part (command-closes c (bytes ++ piece))
 
 -- what a job says, at the command that it began with
-pub fed-at : (d c : Command) (was now : List ℕ → Type 0) (piece : List ℕ) (took : List ℕ → Type 0) → d ≡ c → JobFed d was now piece took → JobFed c was now piece took
+pub fed-at : (d c : Command) (was now : List ℕ → Type 0) (piece : List ℕ) (took : List ℕ → Type 0) → d ≡ c →
+    JobFed d was now piece took → JobFed c was now piece took
 fed-at d c was now piece took same f = subst (λ (x : Command). JobFed x was now piece took) same f
 
-pub halted-at : (d c : Command) (was : List ℕ → Type 0) (piece : List ℕ) (took : List ℕ → Type 0) → d ≡ c → JobHalted d was piece took → JobHalted c was piece took
+pub halted-at : (d c : Command) (was : List ℕ → Type 0) (piece : List ℕ) (took : List ℕ → Type 0) → d ≡ c →
+    JobHalted d was piece took → JobHalted c was piece took
 halted-at d c was piece took same f = subst (λ (x : Command). JobHalted x was piece took) same f
 
 -- the front of a buffer whose front was filled
-pub piece-is : (filled rest : List ℕ) (count : ℕ) → count ≤ length filled → take count (filled ++ rest) ≡ take count filled
+pub piece-is : (filled rest : List ℕ) (count : ℕ) → count ≤ length filled →
+    take count (filled ++ rest) ≡ take count filled
 piece-is filled rest count within = take-append-le count filled rest within
 
-pub piece-size : (filled rest : List ℕ) (count : ℕ) → count ≤ length filled → length (take count (filled ++ rest)) ≡ count
+pub piece-size : (filled rest : List ℕ) (count : ℕ) → count ≤ length filled →
+    length (take count (filled ++ rest)) ≡ count
 piece-size filled rest count within = length-take-le count (filled ++ rest) (omega (arith, length-append filled rest))
 
 -- one more piece went through
-pub so_far-fed : {S : Type 0} (tells : Bool) (contents : S → Contents) (read_faults : S → ℕ) (c : Command) (was goes : List ℕ → Type 0) (start old mid now : S) (bytes piece buffer : List ℕ) (taken count : ℕ) →
+pub so_far-fed : {S : Type 0} (tells : Bool) (contents : S → Contents) (read_faults : S → ℕ) (c : Command)
+    (was goes : List ℕ → Type 0) (start old mid now : S) (bytes piece buffer : List ℕ) (taken count : ℕ) →
     JobFed c was goes piece (λ given. Wrote tells contents read_faults 1 mid given now) →
     length bytes ≡ taken → length piece ≡ count → was bytes →
     (IsTrue tells → SoFar c (contents start) (contents old) bytes) →
     (IsTrue tells → Gives (contents old) (contents mid) 0 count buffer) → piece ≡ take count buffer →
-    (all : List ℕ) × (length all ≡ taken + count) × goes all × (IsTrue tells → SoFar c (contents start) (contents now) all)
+    (all : List ℕ) × (length all ≡ taken + count) × goes all ×
+        (IsTrue tells → SoFar c (contents start) (contents now) all)
 so_far-fed tells contents read_faults c was goes start old mid now bytes piece buffer taken count f size more stands told gives cut = (
   bytes ++ piece,
   omega (arith, length-append bytes piece, size, more),

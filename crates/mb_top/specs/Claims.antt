@@ -17,7 +17,8 @@ use Rattle.mb_top.specs.Answer.{taken_off, added_to, read_all}
 abbrev pub OfConversion : (tells : Bool) (words : List (List ℕ)) (answer : ℕ) (before after : Contents)
     (claim : (first : Spec) (between : List Spec) (last : Spec) (read written : List ℕ) → Type 0) → Type 0
 OfConversion tells words answer before after claim =
-    (tally : Bool) (first : Spec) (between : List Spec) (last : Spec) → IsTrue tells → Means words (Converting tally first between last) → read_all answer ≡ true →
+    (tally : Bool) (first : Spec) (between : List Spec) (last : Spec) → IsTrue tells →
+        Means words (Converting tally first between last) → read_all answer ≡ true →
     claim first between last (taken_off 0 before after) (added_to 1 before after)
 
 abbrev pub OfListing : (tells : Bool) (words : List (List ℕ)) (answer : ℕ) (before after : Contents)
@@ -26,12 +27,15 @@ OfListing tells words answer before after claim =
     (traced : Bool) (s : Spec) → IsTrue tells → Means words (Listing traced s) → read_all answer ≡ true →
     claim traced s (taken_off 0 before after) (added_to 1 before after)
 
-abbrev pub OfReader : (tells : Bool) (words : List (List ℕ)) (before : Contents) (claim : (c : Command) (s : Spec) (left : List ℕ) → Type 0) → Type 0
-OfReader tells words before claim = (c : Command) (s : Spec) → IsTrue tells → Means words c → ReadsOne c s → claim c s (before.left 0)
+abbrev pub OfReader : (tells : Bool) (words : List (List ℕ)) (before : Contents)
+    (claim : (c : Command) (s : Spec) (left : List ℕ) → Type 0) → Type 0
+OfReader tells words before claim = (c : Command) (s : Spec) → IsTrue tells → Means words c → ReadsOne c s →
+    claim c s (before.left 0)
 
 abbrev pub IsTallied : (tells : Bool) (words : List (List ℕ)) (answer : ℕ) (before after : Contents) → Type 0
 IsTallied tells words answer before after =
-    (c : Command) → IsTrue tells → Means words c → read_all answer ≡ true → IsFront (tally_of c (taken_off 0 before after)) (added_to 2 before after)
+    (c : Command) → IsTrue tells → Means words c → read_all answer ≡ true →
+        IsFront (tally_of c (taken_off 0 before after)) (added_to 2 before after)
 
 pub record Unhindered (reads reads_now writes writes_now : ℕ) : Type 0 where
   pub reading : Rose reads reads_now → ⊥

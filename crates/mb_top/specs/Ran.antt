@@ -57,7 +57,8 @@ pub record RanEnd (c : Command) (bytes : List ℕ) (before after : Contents) (st
   pub output : List ℕ
   pub tally : List ℕ
   pub contents : after ≡ after_write 2 tally (after_write 1 output before)
-  pub ends : (limit : ℕ) → length bytes < limit → EndsAs c limit bytes bytes (live_output_of c bytes ++ output) tally status
+  pub ends : (limit : ℕ) → length bytes < limit →
+      EndsAs c limit bytes bytes (live_output_of c bytes ++ output) tally status
 
 -- want of memory is answered of commands alone that may want it, notes of `check` alone
 abbrev pub MayAnswer : Command → Status → Type 0

@@ -19,7 +19,8 @@ pub(crate) fn tell_tally<K: Out>(specs: &[Spec], chain: &Chain, out: &mut K) -> 
     ensures cause { HasCause (K.refusals out.old) (K.refusals out.new) result }
     ensures sound { OnOk result (K.refusals out.new ≡ K.refusals out.old) }
     ensures told { OnOk result (Tallied specs.now (ChainEnded chain.now) (λ given. K.took out.old given out.new)) }
-    ensures halted { OnErr result (TalliedPart specs.now (ChainEnded chain.now) (λ given. K.took out.old given out.new)) }
+    ensures halted { OnErr result (TalliedPart specs.now (ChainEnded chain.now)
+        (λ given. K.took out.old given out.new)) }
 {
     'specs: for at in 0..specs.len() {
         let mut line = Line::new();

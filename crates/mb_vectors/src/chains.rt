@@ -106,12 +106,12 @@ fn a_tally_tells_how_many_bytes_crossed_each_spec(rt: HostRuntime) {
     }
 }
 
-/// The status, the output and the text where a call fails: the first row where the first call does, and so on; where the last
-/// row's would, none is made.
+/// The status, the output and the text where a call fails: the first row where the first call does, and so on; where
+/// the last row's would, none is made.
 type Faulty = (u8, &'static [u8], &'static str);
 
-/// Three bytes a read: a note, the start of a dump with a clock, and its end. The calls are read, write, and so on, and the read that
-/// finds the end. Two bytes of the dump wait for their packet where the clock is written.
+/// Three bytes a read: a note, the start of a dump with a clock, and its end. The calls are read, write, and so on, and
+/// the read that finds the end. Two bytes of the dump wait for their packet where the clock is written.
 const BY_THREES: &[Faulty] = &[
     (3, &[], "read fault\n"),
     (4, &[], "write fault\n"),

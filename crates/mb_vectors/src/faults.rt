@@ -19,8 +19,8 @@ const NOTE_ON_PACKET: &[u8] = &[0x09, 0x90, 0x3c, 0x64];
 const USAGE: &str =
     "usage: midibridge convert [tally] SPEC SPEC .. / trace SPEC / check SPEC / run RIGFILE / selftest START COUNT\n";
 
-/// What the row shows, which call of the desk is to fail, the room for what is written, the status, and what must stand on
-/// standard output and error.
+/// What the row shows, which call of the desk is to fail, the room for what is written, the status, and what must stand
+/// on standard output and error.
 type Fault = (&'static str, u64, usize, u8, &'static [u8], &'static str);
 
 const FAULTS: &[Fault] = &[

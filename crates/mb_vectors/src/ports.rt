@@ -60,8 +60,8 @@ fn read_piece(reader: &mut PortReader, piece: &[u8], text: &mut Text)
     }
 }
 
-/// What the row shows, the port, its bytes at moment 1250 and at 1251, what they and two finishes tell, and whether a packet is
-/// cut.
+/// What the row shows, the port, its bytes at moment 1250 and at 1251, what they and two finishes tell, and whether a
+/// packet is cut.
 type Port = (
     &'static str,
     &'static str,

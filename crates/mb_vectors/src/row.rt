@@ -18,8 +18,8 @@ pub struct Row<'a> {
     pub text: &'a str,
 }
 
-/// The same as it stands in tables: what the row shows, the words, the input, the output, and the status, which tells what
-/// must stand on standard error.
+/// The same as it stands in tables: what the row shows, the words, the input, the output, and the status, which tells
+/// what must stand on standard error.
 pub type Told = (
     &'static str,
     &'static [&'static str],

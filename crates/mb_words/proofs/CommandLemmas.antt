@@ -1,5 +1,6 @@
 -- Words are one command at most: names differ, and each command's words give its parts.
-use Rattle.std.proofs.Common.{◌≡◌, ℕ, suc, Bool, true, false, if◌then◌else◌, List, [], ◌∷◌, ◌++◌, length, refl, sym, ◌∙◌, ap, subst, arith, codes}
+use Rattle.std.proofs.Common.{◌≡◌, ℕ, suc, Bool, true, false, if◌then◌else◌, List, [], ◌∷◌, ◌++◌, length, refl, sym,
+    ◌∙◌, ap, subst, arith, codes}
 use Rattle.std.specs.Str.{bytes_eq}
 use Rattle.mb_carrier.specs.Word.{IsWordOf, AreSpecs}
 use Rattle.mb_carrier.specs.declared.spec.Spec.{Spec}
@@ -23,7 +24,8 @@ same_specs [] (s ∷ ss) ts a b = elim a [ ]
 same_specs (w ∷ words) [] ts a b = elim a [ ]
 same_specs (w ∷ words) (s ∷ ss) [] a b = elim b [ ]
 same_specs (w ∷ words) (s ∷ ss) (t ∷ ts) a b =
-    ap (λ (x : Spec). x ∷ ss) (one_spec w s t a.0 b.0) ∙ ap (λ (xs : List Spec). t ∷ xs) (same_specs words ss ts a.1 b.1)
+    ap (λ (x : Spec). x ∷ ss) (one_spec w s t a.0 b.0)
+        ∙ ap (λ (xs : List Spec). t ∷ xs) (same_specs words ss ts a.1 b.1)
 
 pub as_many : (words : List (List ℕ)) (specs : List Spec) → AreWordsOf words specs → length words ≡ length specs
 as_many [] [] a = refl
@@ -48,20 +50,24 @@ not_tally (Usb cable) e = (let differ : 116 ≡ 117 = ap first_letter e.1 in ome
 
 -- whether a tally is asked
 
-pub no_tally : (words rest : List (List ℕ)) (specs : List Spec) → words ≡ codes "tally" ∷ rest → AreWordsOf words specs → ⊥
+pub no_tally : (words rest : List (List ℕ)) (specs : List Spec) → words ≡ codes "tally" ∷ rest →
+    AreWordsOf words specs → ⊥
 no_tally [] rest specs e a = cc
 no_tally (w ∷ words) rest [] e a = a
-no_tally (w ∷ words) rest (s ∷ specs) e a = not_tally s (subst (λ (x : List ℕ). IsWordOf x s) (heads w (codes "tally") words rest e) a.0)
+no_tally (w ∷ words) rest (s ∷ specs) e a = not_tally s
+    (subst (λ (x : List ℕ). IsWordOf x s) (heads w (codes "tally") words rest e) a.0)
 
 abbrev options : (tally : Bool) → List (List ℕ)
 options tally = if tally then codes "tally" ∷ [] else []
 
 -- the words behind a name tell whether a tally is asked, and the specs
-same_behind : (v t : Bool) (words more : List (List ℕ)) (ss ts : List Spec) → options v ++ words ≡ options t ++ more → AreWordsOf words ss → AreWordsOf more ts → (v ≡ t) × (ss ≡ ts)
+same_behind : (v t : Bool) (words more : List (List ℕ)) (ss ts : List Spec) → options v ++ words ≡ options t ++ more →
+    AreWordsOf words ss → AreWordsOf more ts → (v ≡ t) × (ss ≡ ts)
 same_behind true true words more ss ts e m n =
     let same = tails (codes "tally") (codes "tally") words more e in
     (refl, same_specs more ss ts (subst (λ (ws : List (List ℕ)). AreWordsOf ws ss) same m) n)
-same_behind false false words more ss ts e m n = (refl, same_specs more ss ts (subst (λ (ws : List (List ℕ)). AreWordsOf ws ss) e m) n)
+same_behind false false words more ss ts e m n =
+    (refl, same_specs more ss ts (subst (λ (ws : List (List ℕ)). AreWordsOf ws ss) e m) n)
 same_behind true false words more ss ts e m n = absurd (no_tally more words ts (sym e) n)
 same_behind false true words more ss ts e m n = absurd (no_tally words more ss e m)
 
@@ -85,10 +91,12 @@ end_again : (s : Spec) (between : List Spec) (last : Spec) → end_of s (between
 end_again s [] last = refl
 end_again s (t ∷ between) last = end_again t between last
 
-converting_again : (tally : Bool) (first : Spec) (between : List Spec) (last : Spec) → converting tally (first ∷ (between ++ last ∷ [])) ≡ Converting tally first between last
+converting_again : (tally : Bool) (first : Spec) (between : List Spec) (last : Spec) →
+    converting tally (first ∷ (between ++ last ∷ [])) ≡ Converting tally first between last
 converting_again tally first [] last = refl
 converting_again tally first (s ∷ between) last =
-    ap (λ (specs : List Spec). Converting tally first specs (end_of s (between ++ last ∷ []))) (front_again s between last)
+    ap (λ (specs : List Spec). Converting tally first specs (end_of s (between ++ last ∷ [])))
+        (front_again s between last)
     ∙ ap (λ (t : Spec). Converting tally first (s ∷ between) t) (end_again s between last)
 
 again : (c : Command) → rebuilt (name_of c) (asks_tally c) (specs_of c) ≡ c
@@ -100,7 +108,8 @@ pub one_command : (words : List (List ℕ)) (c d : Command) → Means words c �
 one_command words c d m n =
     let same = sym m.words_are ∙ n.words_are in
     let name : name_of c ≡ name_of d = heads _ _ _ _ same in
-    let behind = same_behind (asks_tally c) (asks_tally d) m.arguments n.arguments (specs_of c) (specs_of d) (tails _ _ _ _ same) m.are_specs n.are_specs in
+    let behind = same_behind (asks_tally c) (asks_tally d) m.arguments n.arguments (specs_of c) (specs_of d)
+        (tails _ _ _ _ same) m.are_specs n.are_specs in
     sym (again c)
     ∙ (ap (λ (x : List ℕ). rebuilt x (asks_tally c) (specs_of c)) name
     ∙ (ap (λ (t : Bool). rebuilt (name_of d) t (specs_of c)) behind.0

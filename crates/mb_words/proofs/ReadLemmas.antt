@@ -1,5 +1,6 @@
 -- What is read of words, place by place.
-use Rattle.std.proofs.Common.{◌≡◌, ℕ, zero, suc, ◌+◌, ◌≤◌, Bool, true, false, List, [], ◌∷◌, ◌++◌, length, drop, refl, sym, ◌∙◌, ap, subst, arith, codes, length-append, append_assoc}
+use Rattle.std.proofs.Common.{◌≡◌, ℕ, zero, suc, ◌+◌, ◌≤◌, Bool, true, false, List, [], ◌∷◌, ◌++◌, length, drop, refl,
+    sym, ◌∙◌, ap, subst, arith, codes, length-append, append_assoc}
 use Rattle.std.specs.Prelude.{slice_get, slice_index_or, Option, Some, None, IfNone}
 use Rattle.std.proofs.lemmas.List.{length-drop, append-nil}
 use Rattle.mb_carrier.specs.Word.{IsWordOf}
@@ -17,9 +18,11 @@ pub begins : (words : List (List ℕ)) (w : List ℕ) → slice_get words 0 ≡ 
 begins [] w e = cc
 begins (x ∷ words) w e = ap (λ (y : List ℕ). y ∷ words) (some-same x w e)
 
-pub begins_twice : (words : List (List ℕ)) (w v : List ℕ) → slice_get words 0 ≡ Some w → slice_get words 1 ≡ Some v → words ≡ w ∷ v ∷ drop 2 words
+pub begins_twice : (words : List (List ℕ)) (w v : List ℕ) → slice_get words 0 ≡ Some w → slice_get words 1 ≡ Some v →
+    words ≡ w ∷ v ∷ drop 2 words
 begins_twice [] w v e f = cc
-begins_twice (x ∷ words) w v e f = ap (λ (y : List ℕ). y ∷ words) (some-same x w e) ∙ ap (λ (xs : List (List ℕ)). w ∷ xs) (begins words v f)
+begins_twice (x ∷ words) w v e f = ap (λ (y : List ℕ). y ∷ words) (some-same x w e)
+    ∙ ap (λ (xs : List (List ℕ)). w ∷ xs) (begins words v f)
 
 none_left : (words : List (List ℕ)) → length words ≡ 0 → words ≡ []
 none_left [] e = refl
@@ -30,25 +33,29 @@ single [] w one e = absurd (omega (arith, one))
 single (x ∷ []) w one e = ap (λ (y : List ℕ). y ∷ []) (some-same x w e)
 single (x ∷ y ∷ words) w one e = absurd (omega (arith, one))
 
-pub drop-at : (words : List (List ℕ)) (at : ℕ) (w : List ℕ) → slice_get words at ≡ Some w → drop at words ≡ w ∷ drop (suc at) words
+pub drop-at : (words : List (List ℕ)) (at : ℕ) (w : List ℕ) → slice_get words at ≡ Some w →
+    drop at words ≡ w ∷ drop (suc at) words
 drop-at [] at w e = cc
 drop-at (x ∷ words) zero w e = ap (λ (y : List ℕ). y ∷ words) (some-same x w e)
 drop-at (x ∷ words) (suc at) w e = drop-at words at w e
 
-pub drop-next : (words : List (List ℕ)) (at : ℕ) (w : List ℕ) → slice_get words at ≡ Some w → drop at words ≡ w ∷ drop (at + 1) words
+pub drop-next : (words : List (List ℕ)) (at : ℕ) (w : List ℕ) → slice_get words at ≡ Some w →
+    drop at words ≡ w ∷ drop (at + 1) words
 drop-next words at w e =
     let next : suc at ≡ at + 1 = omega arith in
     drop-at words at w e ∙ ap (λ (n : ℕ). w ∷ drop n words) next
 
 -- words of specs, one more at a time
 
-pub words-push : (words : List (List ℕ)) (specs : List Spec) (w : List ℕ) (s : Spec) → AreWordsOf words specs → IsWordOf w s → AreWordsOf (words ++ w ∷ []) (specs ++ s ∷ [])
+pub words-push : (words : List (List ℕ)) (specs : List Spec) (w : List ℕ) (s : Spec) → AreWordsOf words specs →
+    IsWordOf w s → AreWordsOf (words ++ w ∷ []) (specs ++ s ∷ [])
 words-push [] [] w s a b = (b, tt)
 words-push [] (t ∷ specs) w s a b = elim a [ ]
 words-push (x ∷ words) [] w s a b = elim a [ ]
 words-push (x ∷ words) (t ∷ specs) w s a b = (a.0, words-push words specs w s a.1 b)
 
-pub word_in : (before rest : List (List ℕ)) (w : List ℕ) (specs : List Spec) → AreWordsOf (before ++ w ∷ rest) specs → (s : Spec) × IsWordOf w s
+pub word_in : (before rest : List (List ℕ)) (w : List ℕ) (specs : List Spec) → AreWordsOf (before ++ w ∷ rest) specs →
+    (s : Spec) × IsWordOf w s
 word_in [] rest w [] a = elim a [ ]
 word_in (x ∷ before) rest w [] a = elim a [ ]
 word_in [] rest w (s ∷ specs) a = (s, a.0)
@@ -56,7 +63,8 @@ word_in (x ∷ before) rest w (s ∷ specs) a = word_in before rest w specs a.1
 
 -- names
 
-first_word : (words : List (List ℕ)) (w : List ℕ) (c : Command) → Means words c → slice_get words 0 ≡ Some w → w ≡ name_of c
+first_word : (words : List (List ℕ)) (w : List ℕ) (c : Command) → Means words c → slice_get words 0 ≡ Some w →
+    w ≡ name_of c
 first_word words w c m e = some-same w (name_of c) (sym e ∙ ap (λ (xs : List (List ℕ)). slice_get xs 0) m.words_are)
 
 pub no_words : (words : List (List ℕ)) (c : Command) → Means words c → length words ≡ 0 → ⊥
@@ -67,18 +75,22 @@ letter_at place letters = slice_index_or letters place 0
 
 pub no_name : (words : List (List ℕ)) (w : List ℕ) (c : Command) → slice_get words 0 ≡ Some w →
     (w ≡ codes "convert" → ⊥) → (w ≡ codes "trace" → ⊥) → (w ≡ codes "check" → ⊥) → Means words c → ⊥
-no_name words w (Converting tally first between last) e convert trace check m = convert (first_word words w (Converting tally first between last) m e)
+no_name words w (Converting tally first between last) e convert trace check m = convert
+    (first_word words w (Converting tally first between last) m e)
 no_name words w (Listing true s) e convert trace check m = trace (first_word words w (Listing true s) m e)
 no_name words w (Listing false s) e convert trace check m = check (first_word words w (Listing false s) m e)
 
 -- a listing
 
-pub listing-means : (words : List (List ℕ)) (traced : Bool) (w : List ℕ) (s : Spec) → length words ≡ 2 → slice_get words 0 ≡ Some (listing_word traced) → slice_get words 1 ≡ Some w → IsWordOf w s →
+pub listing-means : (words : List (List ℕ)) (traced : Bool) (w : List ℕ) (s : Spec) → length words ≡ 2 →
+    slice_get words 0 ≡ Some (listing_word traced) → slice_get words 1 ≡ Some w → IsWordOf w s →
     Means words (Listing traced s)
 listing-means words traced w s two name word is =
     record {
       arguments = w ∷ [];
-      words_are = begins_twice words (listing_word traced) w name word ∙ ap (λ (xs : List (List ℕ)). listing_word traced ∷ w ∷ xs) (none_left (drop 2 words) (omega (arith, two, length-drop 2 words)));
+      words_are = begins_twice words (listing_word traced) w name word
+          ∙ ap (λ (xs : List (List ℕ)). listing_word traced ∷ w ∷ xs)
+          (none_left (drop 2 words) (omega (arith, two, length-drop 2 words)));
       are_specs = (is, tt);
       built = tt;
     }
@@ -97,20 +109,28 @@ is_listing words traced s m =
     record {
       two = omega (arith, ap length m.words_are, one);
       spec = s;
-      word = λ w e. word_alone w m.arguments s (single m.arguments w one (sym (ap (λ (xs : List (List ℕ)). slice_get xs 1) m.words_are) ∙ e)) m.are_specs;
+      word = λ w e. word_alone w m.arguments s
+          (single m.arguments w one (sym (ap (λ (xs : List (List ℕ)). slice_get xs 1) m.words_are) ∙ e)) m.are_specs;
     }
 
-pub only_listing : (words : List (List ℕ)) (traced : Bool) (c : Command) → slice_get words 0 ≡ Some (listing_word traced) → Means words c → IsListing words
+pub only_listing : (words : List (List ℕ)) (traced : Bool) (c : Command) →
+    slice_get words 0 ≡ Some (listing_word traced) → Means words c → IsListing words
 only_listing words true (Converting tally first between last) e m =
-    (let differ : 116 ≡ 99 = ap (letter_at 0) (first_word words (listing_word true) (Converting tally first between last) m e) in absurd (omega (arith, differ)))
+    (let differ : 116 ≡ 99 = ap (letter_at 0)
+        (first_word words (listing_word true) (Converting tally first between last) m e) in absurd
+        (omega (arith, differ)))
 only_listing words false (Converting tally first between last) e m =
-    (let differ : 104 ≡ 111 = ap (letter_at 1) (first_word words (listing_word false) (Converting tally first between last) m e) in absurd (omega (arith, differ)))
+    (let differ : 104 ≡ 111 = ap (letter_at 1)
+        (first_word words (listing_word false) (Converting tally first between last) m e) in absurd
+        (omega (arith, differ)))
 only_listing words traced (Listing v s) e m = is_listing words v s m
 
 -- a conversion
 
-pub conversion-means : (words : List (List ℕ)) (tally : Bool) (specs : List Spec) → slice_get words 0 ≡ Some (codes "convert") → (tally ≡ true → slice_get words 1 ≡ Some (codes "tally")) →
-    AreWordsOf (drop (place_of_specs tally) words) specs → 2 ≤ length specs → length specs ≤ 10 → Means words (converting tally specs)
+pub conversion-means : (words : List (List ℕ)) (tally : Bool) (specs : List Spec) →
+    slice_get words 0 ≡ Some (codes "convert") → (tally ≡ true → slice_get words 1 ≡ Some (codes "tally")) →
+    AreWordsOf (drop (place_of_specs tally) words) specs → 2 ≤ length specs → length specs ≤ 10 →
+        Means words (converting tally specs)
 conversion-means words true [] name option are some few = absurd (omega (arith, some))
 conversion-means words true (first ∷ []) name option are some few = absurd (omega (arith, some))
 conversion-means words true (first ∷ s ∷ specs) name option are some few =
@@ -137,33 +157,44 @@ pub record IsConversion (words : List (List ℕ)) (tally : Bool) : Type 0 where
   pub few : length specs ≤ 10
 
 is_conversion : (words : List (List ℕ)) (tally v : Bool) (first : Spec) (between : List Spec) (last : Spec) →
-    (tally ≡ true → slice_get words 1 ≡ Some (codes "tally")) → (tally ≡ false → slice_get words 1 ≡ Some (codes "tally") → ⊥) → Means words (Converting v first between last) → IsConversion words tally
+    (tally ≡ true → slice_get words 1 ≡ Some (codes "tally")) →
+        (tally ≡ false → slice_get words 1 ≡ Some (codes "tally") → ⊥) →
+        Means words (Converting v first between last) → IsConversion words tally
 is_conversion words true true first between last asked unasked m =
     record {
       specs = first ∷ (between ++ last ∷ []);
-      are = subst (λ (xs : List (List ℕ)). AreWordsOf xs (first ∷ (between ++ last ∷ []))) (sym (ap (drop 2) m.words_are)) m.are_specs;
+      are = subst (λ (xs : List (List ℕ)). AreWordsOf xs (first ∷ (between ++ last ∷ [])))
+          (sym (ap (drop 2) m.words_are)) m.are_specs;
       some = omega (arith, length-append between (last ∷ []));
       few = omega (arith, length-append between (last ∷ []), m.built);
     }
 is_conversion words false false first between last asked unasked m =
     record {
       specs = first ∷ (between ++ last ∷ []);
-      are = subst (λ (xs : List (List ℕ)). AreWordsOf xs (first ∷ (between ++ last ∷ []))) (sym (ap (drop 1) m.words_are)) m.are_specs;
+      are = subst (λ (xs : List (List ℕ)). AreWordsOf xs (first ∷ (between ++ last ∷ [])))
+          (sym (ap (drop 1) m.words_are)) m.are_specs;
       some = omega (arith, length-append between (last ∷ []));
       few = omega (arith, length-append between (last ∷ []), m.built);
     }
 is_conversion words true false first between last asked unasked m =
     absurd (no_tally m.arguments (drop 1 m.arguments) (first ∷ (between ++ last ∷ []))
-    (begins m.arguments (codes "tally") (sym (ap (λ (xs : List (List ℕ)). slice_get xs 1) m.words_are) ∙ asked refl)) m.are_specs)
-is_conversion words false true first between last asked unasked m = absurd (unasked refl (ap (λ (xs : List (List ℕ)). slice_get xs 1) m.words_are))
+    (begins m.arguments (codes "tally") (sym (ap (λ (xs : List (List ℕ)). slice_get xs 1) m.words_are)
+        ∙ asked refl)) m.are_specs)
+is_conversion words false true first between last asked unasked m = absurd
+    (unasked refl (ap (λ (xs : List (List ℕ)). slice_get xs 1) m.words_are))
 
-pub only_conversion : (words : List (List ℕ)) (tally : Bool) (c : Command) → slice_get words 0 ≡ Some (codes "convert") →
-    (tally ≡ true → slice_get words 1 ≡ Some (codes "tally")) → (tally ≡ false → slice_get words 1 ≡ Some (codes "tally") → ⊥) → Means words c → IsConversion words tally
-only_conversion words tally (Converting v first between last) e asked unasked m = is_conversion words tally v first between last asked unasked m
+pub only_conversion : (words : List (List ℕ)) (tally : Bool) (c : Command) →
+    slice_get words 0 ≡ Some (codes "convert") →
+    (tally ≡ true → slice_get words 1 ≡ Some (codes "tally")) →
+        (tally ≡ false → slice_get words 1 ≡ Some (codes "tally") → ⊥) → Means words c → IsConversion words tally
+only_conversion words tally
+    (Converting v first between last) e asked unasked m = is_conversion words tally v first between last asked unasked m
 only_conversion words tally (Listing true s) e asked unasked m =
-    (let differ : 99 ≡ 116 = ap (letter_at 0) (first_word words (codes "convert") (Listing true s) m e) in absurd (omega (arith, differ)))
+    (let differ : 99 ≡ 116 = ap (letter_at 0) (first_word words (codes "convert") (Listing true s) m e) in absurd
+        (omega (arith, differ)))
 only_conversion words tally (Listing false s) e asked unasked m =
-    (let differ : 111 ≡ 104 = ap (letter_at 1) (first_word words (codes "convert") (Listing false s) m e) in absurd (omega (arith, differ)))
+    (let differ : 111 ≡ 104 = ap (letter_at 1) (first_word words (codes "convert") (Listing false s) m e) in absurd
+        (omega (arith, differ)))
 
 pub none_some : {A : Type 0} (r : Option A) (x : A) → r ≡ None → r ≡ Some x → ⊥
 none_some r x e f = let same = sym e ∙ f in cc
@@ -180,7 +211,8 @@ pub record ReadSoFar (words left : List (List ℕ)) (specs : List Spec) : Type 0
 pub read-none : (words : List (List ℕ)) (specs : List Spec) → specs ≡ [] → ReadSoFar words words specs
 read-none words specs e = record { before = []; cut = refl; are = subst (AreWordsOf []) (sym e) tt }
 
-pub read-more : (words left rest : List (List ℕ)) (specs now : List Spec) (w : List ℕ) (s : Spec) → ReadSoFar words left specs → left ≡ w ∷ rest → IsWordOf w s → now ≡ specs ++ s ∷ [] → ReadSoFar words rest now
+pub read-more : (words left rest : List (List ℕ)) (specs now : List Spec) (w : List ℕ) (s : Spec) →
+    ReadSoFar words left specs → left ≡ w ∷ rest → IsWordOf w s → now ≡ specs ++ s ∷ [] → ReadSoFar words rest now
 read-more words left rest specs now w s r next is e =
     record {
       before = r.before ++ w ∷ [];
@@ -188,12 +220,17 @@ read-more words left rest specs now w s r next is e =
       are = subst (AreWordsOf (r.before ++ w ∷ [])) (sym e) (words-push r.before specs w s r.are is);
     }
 
-pub read-never : (words left rest : List (List ℕ)) (specs all : List Spec) (w : List ℕ) {r : Option Spec} → ReadSoFar words left specs → left ≡ w ∷ rest → AreWordsOf words all →
+pub read-never : (words left rest : List (List ℕ)) (specs all : List Spec) (w : List ℕ) {r : Option Spec} →
+    ReadSoFar words left specs → left ≡ w ∷ rest → AreWordsOf words all →
     r ≡ None → ((s : Spec) → IsWordOf w s → r ≡ Some s) → ⊥
 read-never words left rest specs all w r next are none only =
-    let s = word_in r.before rest w all (subst (λ (xs : List (List ℕ)). AreWordsOf xs all) (r.cut ∙ ap (λ (xs : List (List ℕ)). r.before ++ xs) next) are) in
+    let s = word_in r.before rest w all (subst (λ (xs : List (List ℕ)). AreWordsOf xs all) (r.cut ∙ ap (λ (xs : List
+        (List ℕ)). r.before ++ xs) next) are) in
     none_some _ s.0 none (only s.0 s.1)
 
-pub read-all : (words left : List (List ℕ)) (specs : List Spec) → ReadSoFar words left specs → length left ≡ 0 → AreWordsOf words specs
+pub read-all : (words left : List (List ℕ)) (specs : List Spec) → ReadSoFar words left specs → length left ≡ 0 →
+    AreWordsOf words specs
 read-all words left specs r done =
-    subst (λ (xs : List (List ℕ)). AreWordsOf xs specs) (sym (append-nil r.before) ∙ (ap (λ (xs : List (List ℕ)). r.before ++ xs) (sym (none_left left done)) ∙ sym r.cut)) r.are
+    subst (λ (xs : List (List ℕ)). AreWordsOf xs specs)
+        (sym (append-nil r.before) ∙ (ap (λ (xs : List (List ℕ)). r.before ++ xs) (sym (none_left left done))
+        ∙ sym r.cut)) r.are

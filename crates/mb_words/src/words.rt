@@ -1,6 +1,7 @@
 //! The words of a command line as a command.
 
-ghost use Rattle.std.specs.Prelude.{◌≡◌, ℕ, ◌≤◌, Bool, true, false, List, length, drop, slice_get, codes, Some, IfSome, IfNone, IfOk, OnErr};
+ghost use Rattle.std.specs.Prelude.{◌≡◌, ℕ, ◌≤◌, Bool, true, false, List, length, drop, slice_get, codes, Some,
+    IfSome, IfNone, IfOk, OnErr};
 ghost use Rattle.mb_carrier.specs.declared.spec.Spec.{Spec};
 ghost use Rattle.mb_words.specs.Command as words_mean;
 ghost use Rattle.mb_words.specs.Command.{Means, AreWordsOf, listing_word};
@@ -111,7 +112,8 @@ fn read_specs(words: &Args, start: usize) -> Option<Specs>
     ensures found { IfSome result (λ specs. AreWordsOf (drop start words.now) specs.items) }
     ensures some { IfSome result (λ specs. 2 ≤ length specs.items) }
     ensures few { IfSome result (λ specs. length specs.items ≤ 10) }
-    ensures only { IfNone result ((specs : List Spec) → 2 ≤ length specs → length specs ≤ 10 → AreWordsOf (drop start words.now) specs → ⊥) }
+    ensures only { IfNone result ((specs : List Spec) → 2 ≤ length specs → length specs ≤ 10 →
+        AreWordsOf (drop start words.now) specs → ⊥) }
 {
     if words.len() < start + 2 || start + 10 < words.len() {
         return None;

@@ -17,7 +17,8 @@ pieces-preserved g c =
     record {
       spec = c.put_one.ensures.spec ∙ c.pieces.invariant.spec;
       in_sysex = c.put_one.ensures.in_sysex ∙ c.pieces.invariant.in_sysex;
-      room = subst (λ (s : Spec). array_vec_len c.put_one.new.held + room_of s ≤ 1024) c.pieces.invariant.spec (c.if-not-put_one.ensures.room refl);
+      room = subst (λ (s : Spec). array_vec_len c.put_one.new.held + room_of s ≤ 1024) c.pieces.invariant.spec
+          (c.if-not-put_one.ensures.room refl);
       suits =
           may_come-back (g.W.EventWriter.in_sysex c.args.writer.now) c.split_at.result.0.now c.split_at.result.1.now
           (subst (λ (xs : List ℕ). MayCome (g.W.EventWriter.in_sysex c.args.writer.now) (map ByteSign xs))

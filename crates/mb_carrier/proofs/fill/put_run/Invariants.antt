@@ -15,7 +15,8 @@ invariant-pieces g l =
       in_sysex : W.in_sysex l.writer ≡ W.in_sysex l.initial.writer;
       room : array_vec_len l.held + room_of (W.spec l.initial.writer) ≤ 1024;
       suits : MayCome (W.in_sysex l.initial.writer) (map ByteSign l.run.now);
-      put : PutSome (live (W.spec l.initial.writer)) (W.stands l.initial.writer) (W.stands l.writer) l.at (map ByteSign l.initial.run.now) l.run.now l.initial.held.items l.held.items;
+      put : PutSome (live (W.spec l.initial.writer)) (W.stands l.initial.writer) (W.stands l.writer) l.at
+          (map ByteSign l.initial.run.now) l.run.now l.initial.held.items l.held.items;
       fewer : length l.run.now ≤ length l.initial.run.now;
     }
 

@@ -8,7 +8,8 @@ use Rattle.mb_carrier.proofs.fill.read_on.Goals as goal
 
 pub returns-then-not-may_stand-clause-left : goal.returns-then-not-may_stand-clause-left
 returns-then-not-may_stand-clause-left g c = λ moments bytes puts base f.
-    flows-owes _ _ moments _ c.args.apart c.args.at _ _ bytes _ _ _ puts base _ (ap (puts_at (g.R.EventReader.moment c.next.new.self c.args.moment)) (sym c.event_of.ensures.signs))
+    flows-owes _ _ moments _ c.args.apart c.args.at _ _ bytes _ _ _ puts base _
+        (ap (puts_at (g.R.EventReader.moment c.next.new.self c.args.moment)) (sym c.event_of.ensures.signs))
     (flows-seen _ _ _ moments _ c.args.apart c.args.at _ _ _ _ bytes _ _ puts base _ c.in-Some.seen c.events.invariant.reads c.in-Some.ensures.goes (c.events.invariant.flows moments bytes puts base f))
 
 pub put_seen-requires-clause-suits : goal.put_seen-requires-clause-suits
@@ -30,10 +31,13 @@ events-preserved g c =
       reads = c.next.ensures.spec ∙ c.events.invariant.reads;
       writes = c.put_seen.ensures.spec ∙ c.events.invariant.writes;
       offset = c.next.ensures.end ∙ c.events.invariant.offset;
-      room = subst (λ (s : Spec). array_vec_len c.put_seen.new.held + room_of s ≤ 1024) c.events.invariant.writes (c.if-not-put_seen.ensures.room refl);
+      room = subst (λ (s : Spec). array_vec_len c.put_seen.new.held + room_of s ≤ 1024) c.events.invariant.writes
+          (c.if-not-put_seen.ensures.room refl);
       later = omega (arith, c.in-Some.ensures.progress, c.events.invariant.later);
       flows = λ moments bytes puts base f.
-          flows-empty _ _ moments _ c.args.apart c.args.at _ _ bytes _ (g.R.EventReader.moment c.next.new.self c.args.moment) c.put_seen.new.run.now puts base _ (c.if-not-put_seen.ensures.empty refl)
+          flows-empty _ _ moments _ c.args.apart c.args.at _ _ bytes _
+              (g.R.EventReader.moment c.next.new.self c.args.moment) c.put_seen.new.run.now puts base _
+              (c.if-not-put_seen.ensures.empty refl)
           (flows-step _ _ _ _ moments _ c.args.apart c.args.at _ _ _ _ _ _ bytes _ _ _ puts base _ _ c.in-Some.seen c.events.invariant.reads c.events.invariant.writes c.moment-now.ensures (c.if-not-may_stand.ensures refl)
           c.in-Some.ensures.goes c.put_seen.ensures.put (c.events.invariant.flows moments bytes puts base f));
     }

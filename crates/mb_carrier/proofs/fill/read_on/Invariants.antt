@@ -18,8 +18,10 @@ invariant-events g l =
       room : array_vec_len l.held + room_of (W.spec l.initial.writer) ≤ 1024;
       later : 2 * length l.rest.now + R.owed l.reader ≤ 2 * length l.initial.rest.now + R.owed l.initial.reader;
       flows : (moments : ℕ → ℕ) (bytes : List ℕ) (puts : List Put) (base : List ℕ) →
-          Flows (R.spec l.initial.reader) (W.spec l.initial.writer) moments l.moment (R.stands l.initial.reader) (W.stands l.initial.writer) bytes l.initial.rest.now [] puts base l.initial.held.items →
-          FlowsMore (R.spec l.initial.reader) (W.spec l.initial.writer) moments l.moment l.apart l.at (R.stands l.reader) (W.stands l.writer) bytes l.rest.now [] puts base l.held.items;
+          Flows (R.spec l.initial.reader) (W.spec l.initial.writer) moments l.moment (R.stands l.initial.reader)
+              (W.stands l.initial.writer) bytes l.initial.rest.now [] puts base l.initial.held.items →
+          FlowsMore (R.spec l.initial.reader) (W.spec l.initial.writer) moments l.moment l.apart l.at
+              (R.stands l.reader) (W.stands l.writer) bytes l.rest.now [] puts base l.held.items;
     }
 
 abbrev pub decreases-events : goal.decreases-events

@@ -11,7 +11,9 @@ invariant-events g l =
       offset : R.offset l.reader + length l.rest ≡ R.offset l.initial.reader + length l.piece;
       ready : K.ready l.out;
       sound : K.refusals l.out ≡ K.refusals l.initial.out;
-      listing : Listing (R.spec l.initial.reader) l.traced (R.stands l.initial.reader) (R.stands l.reader) l.initial.noted l.noted l.piece l.rest l.held.items (λ given. K.took l.initial.out given l.out);
+      listing : Listing (R.spec l.initial.reader) l.traced (R.stands l.initial.reader)
+          (R.stands l.reader) l.initial.noted l.noted l.piece l.rest l.held.items
+          (λ given. K.took l.initial.out given l.out);
     }
 
 abbrev pub decreases-events : goal.decreases-events

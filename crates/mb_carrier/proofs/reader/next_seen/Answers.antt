@@ -12,4 +12,5 @@ pub returns-in-Usb-clause-goes : goal.returns-in-Usb-clause-goes
 returns-in-Usb-clause-goes c = goes-by _ (reader.Usb c.in-Usb.reader) _ _ _ _ _ c.in-Usb.is c.next-in-Usb.ensures.goes
 
 pub returns-in-Usb-clause-all_told : goal.returns-in-Usb-clause-all_told
-returns-in-Usb-clause-all_told c = told_all-by _ _ (reader.Usb c.in-Usb.reader) _ c.in-Usb.is c.next-in-Usb.ensures.all_told
+returns-in-Usb-clause-all_told c = told_all-by _ _
+    (reader.Usb c.in-Usb.reader) _ c.in-Usb.is c.next-in-Usb.ensures.all_told

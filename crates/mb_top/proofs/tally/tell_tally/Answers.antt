@@ -10,7 +10,8 @@ crossed-requires g c = grind (arith, common_steps, hops-count _ _ c.requires.cha
 pub returns-in-Err-clause-halted : goal.returns-in-Err-clause-halted
 returns-in-Err-clause-halted g c =
     told-halted _ _ c.specs.at c.crossed.result _ _ c.as_slice.result.now c.in-Err.ensures.front.0 _ _ _ c.requires.chain (grind (arith, common_steps)) refl c.crossed.ensures.whole
-    (c.as_slice.ensures.value ∙ c.hop_line.ensures.line) c.in-Err.ensures.front.1 c.in-Err.ensures.front.2 (λ x y. g.met.K.Out.both _ _ _ x y) c.specs.invariant.told
+    (c.as_slice.ensures.value ∙ c.hop_line.ensures.line) c.in-Err.ensures.front.1 c.in-Err.ensures.front.2
+        (λ x y. g.met.K.Out.both _ _ _ x y) c.specs.invariant.told
 
 pub specs-preserved : goal.specs-preserved
 specs-preserved g c =
@@ -18,6 +19,8 @@ specs-preserved g c =
       ends = c.specs.invariant.ends;
       ready = c.take.ensures.ready;
       sound = c.in_default.ensures.sound ∙ c.specs.invariant.sound;
-      told = told-more _ _ c.specs.at c.crossed.result _ _ c.as_slice.result.now _ _ _ c.requires.chain (grind (arith, common_steps)) refl c.crossed.ensures.whole
-          (c.as_slice.ensures.value ∙ c.hop_line.ensures.line) c.in_default.ensures.took (λ x y. g.met.K.Out.both _ _ _ x y) c.specs.invariant.told;
+      told = told-more _ _ c.specs.at c.crossed.result _ _ c.as_slice.result.now _ _ _ c.requires.chain
+          (grind (arith, common_steps)) refl c.crossed.ensures.whole
+          (c.as_slice.ensures.value ∙ c.hop_line.ensures.line) c.in_default.ensures.took
+              (λ x y. g.met.K.Out.both _ _ _ x y) c.specs.invariant.told;
     }
