@@ -34,7 +34,14 @@ refuse convert din usb:00
 refuse convert din usb:01
 refuse convert din usb:-1
 refuse convert din "usb:1 "
-refuse convert din usb:0 usb:0
+refuse convert din usb:0 midi
+refuse convert din usb:0 usb:16
+refuse convert din din din din din din din din din din din
+refuse convert tally
+refuse convert tally din
+refuse convert din tally din
+refuse selftest 0 1
+refuse run r.txt
 refuse convert usb:16 din
 refuse check
 refuse check din din
@@ -140,6 +147,41 @@ line 4000 "0 short 90 40 00"
 line 20 "note 4 cin-mismatch"
 exec 3>&- 4<&-
 wait $!
+
+# Notes are answered, and told.
+bytes 3c | "$program" check din >"$room/out" 2>"$room/err"
+expect "a stray byte: status" 1 $?
+expect "a stray byte: standard output" "0 stray-data" "$(cat "$room/out")"
+
+# A long input without line feeds becomes exactly what it must: three bytes of a message are one packet each time.
+yes "$(bytes 903c64)" | tr -d '\n' | head -c 300000 >"$room/long"
+yes "$(bytes 09903c64)" | tr -d '\n' | head -c 400000 >"$room/packets"
+"$program" convert din usb:0 <"$room/long" >"$room/out" 2>"$room/err"
+expect "a long input: status" 0 $?
+cmp -s "$room/out" "$room/packets" || expect "a long input" "its packets" "other bytes"
+"$program" convert usb:0 din usb:1 usb:0 <"$room/packets" >"$room/out" 2>"$room/err"
+expect "a long input through four specs: status" 0 $?
+cmp -s "$room/out" "$room/packets" || expect "a long input through four specs" "the same packets" "other bytes"
+
+# Standard input in two reads, the second of a few bytes: none is lost where a read isn't full.
+{ head -c 1025 "$room/long"; sleep 0.1; tail -c +1026 "$room/long" | head -c 7; } | "$program" convert din usb:0 >"$room/out"
+expect "an uneven input: bytes" 1376 "$(wc -c <"$room/out")"
+cmp -s -n 1376 "$room/out" "$room/packets" || expect "an uneven input" "its packets" "other bytes"
+
+# A write that takes one byte of four: the others are written too.
+if command -v strace >/dev/null && strace -e inject=write:retval=1:when=1 true >/dev/null 2>&1; then
+  bytes 903c64903c64 | strace -o "$room/calls" -e trace=write -e inject=write:retval=1:when=1 "$program" convert din usb:0 >"$room/out"
+  # the first byte is only said to be written
+  expect "a short write" 903c6409903c64 "$(hex <"$room/out")"
+fi
+
+# The tally, before the text.
+bytes 09903c6409 | "$program" convert tally usb:0 din >"$room/out" 2>"$room/err"
+expect "a tally: status" 5 $?
+expect "a tally" "0 usb:0 5,1 din 3,input is cut," "$(tr '\n' ',' <"$room/err")"
+bytes 903c64 | "$program" convert tally din din >"$room/out" 2>/dev/full
+expect "a tally to a full device: status" 4 $?
+expect "a tally to a full device: standard output" 903c64 "$(hex <"$room/out")"
 
 # A recording that stops inside a packet: status 5, and what it has stands there.
 bytes 09903c6409 | "$program" convert usb:0 din >"$room/out" 2>"$room/err"

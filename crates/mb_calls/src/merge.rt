@@ -43,7 +43,7 @@ fn passed(router: &mut Router) -> Text {
 }
 
 fn holds(router: &Router, source: u8, count: u16) -> bool {
-    source < router.sources() && router.held(source) == count
+    source < router.sources() && router.held(source) == count && router.room(source) == 1024
 }
 
 fn is_owned(router: &Router, out: u8, owner: Option<u8>) -> bool {

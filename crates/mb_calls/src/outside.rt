@@ -70,8 +70,15 @@ fn a_real_desk_fails_at_handles_that_it_lacks(rt: HostRuntime) {
     let handle = rt.clone().expect(&rt, "a handle");
     let mut desk = RealDesk::new(handle, rt.alloc()).expect(&rt, "memory");
     let mut buffer = [0u8; 1];
-    assert!(rt; desk.read(5, &mut buffer).is_err() && desk.write(5, &[1]).is_err());
-    assert!(rt; desk.write(1, &[]).ok() == Some(0));
+    for handle in [1, 2, 3, 5] {
+        assert!(rt; desk.read(handle, &mut buffer).is_err());
+    }
+    for handle in [0, 3, 5] {
+        assert!(rt; desk.write(handle, &[1]).is_err());
+    }
+    // standard error takes text alone
+    assert!(rt; desk.write(2, &[0xff]).is_err());
+    assert!(rt; desk.write(1, &[]).ok() == Some(0) && desk.write(2, &[]).ok() == Some(0));
 }
 
 #[test]

@@ -7,3 +7,4 @@ pub mod Histories
 pub mod Fewer
 pub mod Tracks
 pub mod OutLines
+pub mod NonePasses

@@ -10,6 +10,7 @@
 --                         drained router holds a mark only where it waits for another source
 --   IsTracked start h     what is kept of each source is what the marks taken and passed say; its outs stay
 --   to_out m out marks    those of a source that goes to an out
+--   NoneMayPass m         no first held mark may pass now
 --   AreSuiting open ms    the marks may stand one after another, a SysEx being open before them or not
 --   IsUnmixed start ms    what passed to an out may stand there, and no mark but a real-time one stands inside another
 --                         source's SysEx there
@@ -20,7 +21,7 @@ use Rattle.mb_merge.specs.declared.source.Held.{Held}
 use Rattle.mb_merge.specs.declared.router.Passed.{Passed}
 use Rattle.mb_merge.specs.declared.waiting.Head.{Head}
 use Rattle.mb_merge.specs.Links.{Link, Merger, link_at, link_of, share, is_owned}
-use Rattle.mb_merge.specs.Passing.{has_room, is_realtime_mark, next_of, offered_in, opens, ready_head}
+use Rattle.mb_merge.specs.Passing.{has_room, is_realtime_mark, may_pass, next_of, offered_in, opens, ready_head}
 
 pub data Call : Type 0 where
   Offer : (source moment : ℕ) → Mark → Call
@@ -119,6 +120,11 @@ IsLeast links (Some best) =
     × (best.source < length links)
     × ((source : ℕ) (other : Head) → source < length links → ready_head links source ≡ Some other →
     (best.arrival < other.arrival) ⊎ ((best.arrival ≡ other.arrival) × (best.source ≤ source)))
+
+abbrev pub NoneMayPass : Merger → Type 0
+NoneMayPass m =
+    (source : ℕ) (held : Held) (more : List Held) → source < length m.links →
+    (link_of m source).held ≡ held ∷ more → may_pass m.links source held.mark ≡ false
 
 abbrev pub open_step : (source : ℕ) → Bool → Passed → Bool
 open_step source before p = if p.source == source then opens before p.mark else before

@@ -1,11 +1,11 @@
 //! Laws of the router over any list of calls. Each function does nothing; what is proved is its contract.
 
-ghost use Rattle.std.specs.Prelude.{◌≡◌, ◌≢◌, ◌↔◌, ℕ, ◌<◌, ◌≤◌, List, length, slice_index_or, false, true};
+ghost use Rattle.std.specs.Prelude.{◌≡◌, ◌≢◌, ◌↔◌, ℕ, ◌<◌, ◌≤◌, List, length, slice_index_or, false, true, None};
 ghost use Rattle.mb_merge.specs.Links.{Link, Merger, is_owned, link_at, link_of, owns, owns_out};
 ghost use Rattle.mb_message.specs.declared.mark.Mark.{Mark};
-ghost use Rattle.mb_merge.specs.Passing.{has_room, is_realtime_mark, least, passes_now};
+ghost use Rattle.mb_merge.specs.Passing.{has_room, is_realtime_mark, least, next_of, passes_now};
 ghost use Rattle.mb_merge.specs.Opening.{FaultIs, first_fault, opened, stands_in};
-ghost use Rattle.mb_merge.specs.Calls.{Call, IsExclusive, IsFresh, IsLeast, IsOrderly, IsTracked, IsUnmixed, after_calls, begins};
+ghost use Rattle.mb_merge.specs.Calls.{Call, IsExclusive, IsFresh, IsLeast, IsOrderly, IsTracked, IsUnmixed, NoneMayPass, after_calls, begins};
 
 /// From a router of which nothing was taken, whatever is called: no mark passes twice, none is lost, each source's marks pass
 /// in its order but for real-time ones, no two sources that share an out have a SysEx open, and once drained a source that
@@ -21,6 +21,11 @@ pub fn orderly()
 /// What passes next of the held marks is the one that arrived first, and of one arrival that of the lowest source.
 pub fn least_is_first()
     ensures { (links : List Link) → IsLeast links (least links) }
+{}
+
+/// `next_passed` answers None exactly where no mark may pass: none was just offered that is to, and no first held mark may.
+pub fn none_passes()
+    ensures { (m : Merger) → ((next_of m).0 ≡ None) ↔ ((m.offered ≡ None) × NoneMayPass m) }
 {}
 
 /// What it means that a source is owned: another one has an open SysEx on an out of it. An out has one owner at most.

@@ -200,6 +200,14 @@ impl Router {
         self.sources[source as usize].held()
     }
 
+    /// How many marks of a source there is room for in its ring, which was made at the opening and never grows.
+    pub fn room(&self, source: u8) -> usize
+        requires { source < length self.now.links }
+        ensures { result ≡ 1024 }
+    {
+        self.sources[source as usize].room()
+    }
+
     /// The source that owns an out.
     pub fn owner(&self, out: u8) -> Option<u8>
         requires { out < self.now.outs }

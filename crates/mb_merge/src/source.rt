@@ -128,6 +128,13 @@ impl Source {
         self.held.len() as u16
     }
 
+    /// How many marks its ring has room for: it is made so once, and never grows.
+    pub fn room(&self) -> usize
+        ensures { result ≡ 1024 }
+    {
+        self.held.capacity()
+    }
+
     /// The first held mark.
     #[inline(always)]
     pub fn head(&self) -> Option<Held>

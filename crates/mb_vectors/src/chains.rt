@@ -124,11 +124,7 @@ const BY_THREES: &[Faulty] = &[
         &[0x90, 0x3c, 0x64, 0xf8, 0xf0, 0x01, 0x02, 0xf7],
         "read fault\n",
     ),
-    (
-        0,
-        &[0x90, 0x3c, 0x64, 0xf8, 0xf0, 0x01, 0x02, 0xf7],
-        "",
-    ),
+    (0, &[0x90, 0x3c, 0x64, 0xf8, 0xf0, 0x01, 0x02, 0xf7], ""),
 ];
 
 /// The start of a dump that doesn't end: it is written at the end alone.
@@ -147,11 +143,7 @@ const OF_A_TALLY: &[Faulty] = &[
     (4, &[0x90, 0x3c, 0x64], "write fault\n"),
     (4, &[0x90, 0x3c, 0x64], "0 din 3\nwrite fault\n"),
     (4, &[0x90, 0x3c, 0x64], "0 din 3\n1 usb:0 4\nwrite fault\n"),
-    (
-        0,
-        &[0x90, 0x3c, 0x64],
-        "0 din 3\n1 usb:0 4\n2 din 3\n",
-    ),
+    (0, &[0x90, 0x3c, 0x64], "0 din 3\n1 usb:0 4\n2 din 3\n"),
 ];
 
 /// What is listed of two notes, a note a read.
@@ -160,11 +152,7 @@ const OF_A_TRACE: &[Faulty] = &[
     (4, &[], "write fault\n"),
     (3, b"0 short 90 3C 64\n", "read fault\n"),
     (4, b"0 short 90 3C 64\n", "write fault\n"),
-    (
-        3,
-        b"0 short 90 3C 64\n0 short 90 40 64\n",
-        "read fault\n",
-    ),
+    (3, b"0 short 90 3C 64\n0 short 90 40 64\n", "read fault\n"),
     (0, b"0 short 90 3C 64\n0 short 90 40 64\n", ""),
 ];
 
@@ -193,9 +181,9 @@ const SWEEPS: &[Sweep] = &[
 #[test]
 fn one_call_fails_at_each_place(rt: HostRuntime) {
     for (words, input, faults) in SWEEPS {
-        let mut fault = 0;
+        let mut fault = 0u64;
         for (status, output, text) in *faults {
-            fault += 1;
+            fault = fault.saturating_add(1);
             let row = Row {
                 shows: text,
                 words,

@@ -37,13 +37,21 @@ const WORDS: &[(&[&str], &[u8])] = &[
 #[test]
 fn words_are_a_command_or_none(rt: HostRuntime) {
     for (words, text) in WORDS {
-        assert!(rt; command_of(&rt, rt.alloc(), words).as_slice() == *text, "{words:?}");
+        assert!(rt;
+            command_of(&rt, rt.alloc(), words).as_slice() == *text,
+            "{words:?}"
+        );
     }
 }
 
 const LINES: &[(u8, Spec, u64, &str)] = &[
     (0, Spec::Din, 0, "0 din 0\n"),
-    (9, Spec::Usb(15), u64::MAX, "9 usb:15 18446744073709551615\n"),
+    (
+        9,
+        Spec::Usb(15),
+        u64::MAX,
+        "9 usb:15 18446744073709551615\n",
+    ),
 ];
 
 #[test]
@@ -59,7 +67,11 @@ fn lines_of_a_tally(rt: HostRuntime) {
 fn a_listing_prints_what_is_known(rt: HostRuntime) {
     let mut out = MemoryOut::new(rt.alloc(), 64).expect(&rt, "memory");
     let mut listing = Listing::new(Spec::Usb(0), false);
-    assert!(rt; listing.feed(&[0x08, 0x90, 0x3c, 0x64, 0x09], &mut out).is_ok());
+    assert!(rt;
+        listing
+            .feed(&[0x08, 0x90, 0x3c, 0x64, 0x09], &mut out)
+            .is_ok()
+    );
     assert!(rt; !listing.traced() && listing.noted() && listing.partial());
     assert!(rt; listing.finish(&mut out).is_ok());
     assert!(rt; out.bytes() == b"0 cin-mismatch\n".as_slice());
