@@ -88,7 +88,13 @@ fn each_planned_call_fails(rt: HostRuntime) {
     desk.plan_faults(&[1, 3]).expect(&rt, "memory");
     desk.set_piece(1);
     let mut buffer = [0u8; 8];
-    assert!(rt; reads(&mut desk, &mut buffer, &[None, Some(1), None, Some(1), Some(0)]));
+    assert!(rt;
+        reads(
+            &mut desk,
+            &mut buffer,
+            &[None, Some(1), None, Some(1), Some(0)]
+        )
+    );
 }
 
 #[test]

@@ -58,7 +58,7 @@ carried-suits [] end puts suits = suits
 carried-suits (s ∷ specs) end puts suits =
     let m : ℕ → ℕ = moments_of s end puts in
     carried-suits specs (end_moment s m (written s puts)) (puts_of s m (written s puts))
-        (hop-suits s m (written s puts))
+    (hop-suits s m (written s puts))
 
 carried-valid : (specs : List Spec) (end : ℕ) (puts : List Put) → AreValid (signs_in puts) →
     AreValid (signs_in (carried specs end puts))
@@ -66,7 +66,7 @@ carried-valid [] end puts valid = valid
 carried-valid (s ∷ specs) end puts valid =
     let m : ℕ → ℕ = moments_of s end puts in
     carried-valid specs (end_moment s m (written s puts)) (puts_of s m (written s puts))
-        (hop-valid s m (written s puts))
+    (hop-valid s m (written s puts))
 
 carried-means : (specs : List Spec) (end : ℕ) (puts : List Put) → suited (signs_in puts) ≡ true →
     AreValid (signs_in puts) →
@@ -75,7 +75,7 @@ carried-means [] end puts suits valid = refl
 carried-means (s ∷ specs) end puts suits valid =
     let m : ℕ → ℕ = moments_of s end puts in
     carried-means specs (end_moment s m (written s puts)) (puts_of s m (written s puts))
-        (hop-suits s m (written s puts)) (hop-valid s m (written s puts))
+    (hop-suits s m (written s puts)) (hop-valid s m (written s puts))
     ∙ (ap denotation (hop-in s m (written s puts)) ∙ (laws s).means puts suits valid)
 
 carried-length : (specs : List Spec) (end : ℕ) (puts : List Put) → suited (signs_in puts) ≡ true →
@@ -84,9 +84,13 @@ carried-length : (specs : List Spec) (end : ℕ) (puts : List Put) → suited (s
 carried-length [] end puts suits valid = omega arith
 carried-length (s ∷ specs) end puts suits valid =
     let m : ℕ → ℕ = moments_of s end puts in
-    omega (arith, carried-length specs (end_moment s m (written s puts)) (puts_of s m (written s puts))
-        (hop-suits s m (written s puts)) (hop-valid s m (written s puts)),
-    ap length (hop-in s m (written s puts)), (laws s).one_more puts suits valid)
+    omega (
+      arith,
+      carried-length specs (end_moment s m (written s puts)) (puts_of s m (written s puts))
+          (hop-suits s m (written s puts)) (hop-valid s m (written s puts)),
+      ap length (hop-in s m (written s puts)),
+      (laws s).one_more puts suits valid,
+    )
 
 abbrev read_first : Spec → List ℕ → List Put
 read_first first bytes = puts_of first none_set bytes
@@ -102,8 +106,8 @@ through-means first between last bytes =
     let valid = hop-valid first none_set bytes in
     let end = first_end first bytes in
     (laws last).means (carried between end (read_first first bytes))
-        (carried-suits between end (read_first first bytes) suits)
-        (carried-valid between end (read_first first bytes) valid)
+    (carried-suits between end (read_first first bytes) suits)
+    (carried-valid between end (read_first first bytes) valid)
     ∙ (carried-means between end (read_first first bytes) suits valid ∙ ap denotation (hop-in first none_set bytes))
 
 pub through-clean : (first : Spec) (between : List Spec) (last : Spec) (bytes : List ℕ) →
@@ -135,9 +139,13 @@ through-size first between last bytes =
     let suits = hop-suits first none_set bytes in
     let valid = hop-valid first none_set bytes in
     let end = first_end first bytes in
-    omega (arith, (laws last).size (carried between end (read_first first bytes))
-        (carried-suits between end (read_first first bytes) suits),
-    carried-length between end (read_first first bytes) suits valid, ap length (hop-in first none_set bytes))
+    omega (
+      arith,
+      (laws last).size (carried between end (read_first first bytes))
+          (carried-suits between end (read_first first bytes) suits),
+      carried-length between end (read_first first bytes) suits valid,
+      ap length (hop-in first none_set bytes),
+    )
 
 pub through-bounded : (first : Spec) (between : List Spec) (last : Spec) (bytes : List ℕ) →
     length (through first between last bytes) ≤ 1024 * (2 * length bytes + length between) + 1024

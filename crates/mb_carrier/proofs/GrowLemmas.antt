@@ -1,7 +1,7 @@
 -- What was written while the recording goes on stays, and has the moments that it will have: by the laws of the specs
 -- alone.
-use Rattle.std.proofs.Common.{◌≡◌, ℕ, zero, suc, ◌+◌, ◌-◌, ◌<◌, ◌≤◌, true, List, [], ◌∷◌, ◌++◌, length, refl, sym,
-    subst, ◌∙◌, ap, arith, append_assoc, length-append}
+use Rattle.std.proofs.Common.{◌≡◌, ℕ, zero, suc, ◌+◌, ◌-◌, ◌<◌, ◌≤◌, true, List, [], ◌∷◌, ◌++◌, length, refl, sym}
+use Rattle.std.proofs.Common.{subst, ◌∙◌, ap, arith, append_assoc, length-append}
 use Rattle.std.specs.Prelude.{get_or}
 use Rattle.std.proofs.lemmas.List.{append-nil}
 use Rattle.mb_message.specs.Signs.{Sign}
@@ -11,8 +11,8 @@ use Rattle.mb_stream.proofs.OrderLemmas.{Each}
 use Rattle.mb_message.specs.Front.{IsFront}
 use Rattle.mb_stream.specs.Reading.{told_signs}
 use Rattle.mb_carrier.specs.Carrier.{known, puts_known, puts_so_far, puts_of, end_moment, end_told, live, written}
-use Rattle.mb_carrier.specs.Conversion.{repeated, live_moments, moments_of, none_set, carried, through,
-    carried_so_far, live_through}
+use Rattle.mb_carrier.specs.Conversion.{repeated, live_moments, moments_of, none_set, carried, through, carried_so_far}
+use Rattle.mb_carrier.specs.Conversion.{live_through}
 use Rattle.mb_carrier.specs.Hop.{HaveMoment}
 use Rattle.mb_carrier.specs.Laws.{CarrierLaws, GrowLaws}
 use Rattle.mb_carrier.specs.declared.spec.Spec.{Spec}
@@ -34,9 +34,9 @@ moments-append : (s : Spec) (before puts more : List Put) →
 moments-append s before [] more = ap (λ b. live_moments s b more) (sym (append-nil before))
 moments-append s before (p ∷ puts) more =
     let r : List ℕ = repeated (length (live s (before ++ p ∷ [])) - length (live s before))
-        (last_put 0 (before ++ p ∷ [])) in
+    (last_put 0 (before ++ p ∷ [])) in
     ap (λ z. r ++ z) (moments-append s (before ++ p ∷ []) puts more
-        ∙ ap (λ b. live_moments s (before ++ p ∷ []) puts ++ live_moments s b more) (one-more before p puts))
+    ∙ ap (λ b. live_moments s (before ++ p ∷ []) puts ++ live_moments s b more) (one-more before p puts))
     ∙ sym (append_assoc r (live_moments s (before ++ p ∷ []) puts) (live_moments s (before ++ p ∷ puts) more))
 
 moments-length : (s : Spec) → GrowLaws s → (before puts : List Put) → suited (signs_in (before ++ puts)) ≡ true →
@@ -45,22 +45,32 @@ moments-length s g before [] suits = omega (arith, ap (λ b. length (live s b)) 
 moments-length s g before (p ∷ puts) suits =
     let next : List Put = before ++ p ∷ [] in
     let all : suited (signs_in (next ++ puts)) ≡ true = ap (λ b. suited (signs_in b)) (one-more before p puts)
-        ∙ suits in
+    ∙ suits in
     let f = g.stays before (p ∷ []) (puts-front next puts all) in
     let grown : length (live s next) ≡ length (live s before) + length f.0 = ap length f.1
-        ∙ length-append (live s before) f.0 in
+    ∙ length-append (live s before) f.0 in
     let r : List ℕ = repeated (length (live s next) - length (live s before)) (last_put 0 next) in
     let rest = moments-length s g next puts all in
     let same : length (live s (next ++ puts))
-        ≡ length (live s (before ++ p ∷ puts)) = ap (λ b. length (live s b)) (one-more before p puts) in
-    omega (arith, grown, length-append r (live_moments s next puts),
-        repeated-length (length (live s next) - length (live s before)) (last_put 0 next), rest, same)
+    ≡ length (live s (before ++ p ∷ puts)) = ap (λ b. length (live s b)) (one-more before p puts) in
+    omega (
+      arith,
+      grown,
+      length-append r (live_moments s next puts),
+      repeated-length (length (live s next) - length (live s before)) (last_put 0 next),
+      rest,
+      same,
+    )
 
 -- each live byte has a moment
 live-length : (s : Spec) → GrowLaws s → (puts : List Put) → suited (signs_in puts) ≡ true →
     length (live_moments s [] puts) ≡ length (live s puts)
-live-length s g puts suits = omega (arith, moments-length s g [] puts suits, ap (λ
-    (bytes : List ℕ). length bytes) g.nothing)
+live-length s g puts suits = omega (
+  arith,
+  moments-length s g [] puts suits,
+  ap (λ
+      (bytes : List ℕ). length bytes) g.nothing,
+)
 
 get-front : (xs zs : List ℕ) (i d e : ℕ) → i < length xs → get_or xs i d ≡ get_or (xs ++ zs) i e
 get-front [] zs i d e h = absurd (omega (arith, h))
@@ -77,7 +87,7 @@ pub moments-same : (s : Spec) → GrowLaws s → (d e : ℕ) (puts more : List P
     (i : ℕ) → i < length (live s puts) → moments_of s d puts i ≡ moments_of s e (puts ++ more) i
 moments-same s g d e puts more suits i h =
     get-front (live_moments s [] puts) (live_moments s puts more) i d e
-        (omega (arith, h, live-length s g puts (puts-front puts more suits)))
+    (omega (arith, h, live-length s g puts (puts-front puts more suits)))
     ∙ ap (λ z. get_or z i e) (sym (moments-append s [] puts more))
 
 -- Bytes that puts of one moment gave have that moment, and what the finish adds has the end's.
@@ -100,8 +110,8 @@ moments-at : (s : Spec) (k : ℕ) (before : List Put) (done : List Sign) →
 moments-at s k before [] = tt
 moments-at s k before (x ∷ xs) =
     each-both k _ (live_moments s (before ++ At k x ∷ []) (puts_at k xs))
-        (each-repeated _ (last_put 0 (before ++ At k x ∷ [])) k (last_put-at 0 k x before))
-        (moments-at s k (before ++ At k x ∷ []) xs)
+    (each-repeated _ (last_put 0 (before ++ At k x ∷ [])) k (last_put-at 0 k x before))
+    (moments-at s k (before ++ At k x ∷ []) xs)
 
 get-each : (k : ℕ) (ys zs : List ℕ) (i d : ℕ) → i < length ys → Each (λ j. j ≡ k) ys → get_or (ys ++ zs) i d ≡ k
 get-each k [] zs i d h e = absurd (omega (arith, h))
@@ -118,16 +128,16 @@ get-middle k (x ∷ xs) ys zs (suc i) d low high e = get-middle k xs ys zs i d (
 pub held-moment : (t : Spec) → GrowLaws t →
     (end : ℕ) (puts : List Put) (at : ℕ) (done : List Sign) (more : List Put) (base held : List ℕ) →
     suited (signs_in ((puts ++ puts_at at done) ++ more)) ≡ true → live t puts ≡ base →
-        live t (puts ++ puts_at at done) ≡ base ++ held →
+    live t (puts ++ puts_at at done) ≡ base ++ held →
     HaveMoment (moments_of t end ((puts ++ puts_at at done) ++ more)) (length base) (length held) at
 held-moment t g end puts at done more base held suits was now = λ i low high.
     let new : List Put = puts_at at done in
     let both : suited (signs_in (puts ++ new)) ≡ true = puts-front (puts ++ new) more suits in
     let cut : live_moments t [] ((puts ++ new) ++ more)
-        ≡ live_moments t [] puts ++ (live_moments t puts new ++ live_moments t (puts ++ new) more) =
+    ≡ live_moments t [] puts ++ (live_moments t puts new ++ live_moments t (puts ++ new) more) =
     ap (live_moments t []) (append_assoc puts new more)
-        ∙ (moments-append t [] puts (new ++ more)
-        ∙ ap (λ z. live_moments t [] puts ++ z) (moments-append t puts new more)) in
+    ∙ (moments-append t [] puts (new ++ more)
+    ∙ ap (λ z. live_moments t [] puts ++ z) (moments-append t puts new more)) in
     let first = live-length t g puts (puts-front puts new both) in
     let second = moments-length t g puts new both in
     let a : length (live t puts) ≡ length base = ap length was in
@@ -148,18 +158,20 @@ end-moment t g end puts from count suits long = λ i low high. get-past (live_mo
 pub known-front : (s : Spec) → GrowLaws s → (m : ℕ → ℕ) (bytes all : List ℕ) → IsFront bytes all →
     IsFront (puts_known s m (known s bytes)) (puts_known s m (known s all))
 known-front s g m bytes all f =
-    let k = g.known_stays bytes f.0 in
-    (puts_known s m k.0, ap (λ b. puts_known s m (known s b)) f.1
-        ∙ (ap (puts_known s m) k.1 ∙ puts_known-append s m (known s bytes) k.0))
+    let k = g.known_stays bytes f.0 in (
+      puts_known s m k.0,
+      ap (λ b. puts_known s m (known s b)) f.1
+          ∙ (ap (puts_known s m) k.1 ∙ puts_known-append s m (known s bytes) k.0),
+    )
 
 hop-front : (s : Spec) → GrowLaws s → (d e : ℕ) (puts more : List Put) (all : List ℕ) →
     suited (signs_in (puts ++ more)) ≡ true → IsFront (live s puts) all →
     IsFront (puts_so_far s (moments_of s d puts) (live s puts))
-        (puts_known s (moments_of s e (puts ++ more)) (known s all))
+    (puts_known s (moments_of s e (puts ++ more)) (known s all))
 hop-front s g d e puts more all suits f =
     subst (λ (ps : List Put). IsFront ps (puts_known s (moments_of s e (puts ++ more)) (known s all)))
     (sym (g.same (moments_of s d puts) (moments_of s e (puts ++ more)) (live s puts)
-        (λ i h. moments-same s g d e puts more suits i h)))
+    (λ i h. moments-same s g d e puts more suits i h)))
     (known-front s g (moments_of s e (puts ++ more)) (live s puts) all f)
 
 -- Over hops. `q` is behind `p`.
@@ -168,7 +180,7 @@ so_far-suits : (s : Spec) → CarrierLaws s → (m : ℕ → ℕ) (bytes : List 
     suited (signs_in (puts_so_far s m bytes)) ≡ true
 so_far-suits s laws m bytes =
     puts-front (puts_so_far s m bytes) (puts_at (end_moment s m bytes) (told_signs (end_told s bytes)))
-        (ap suited (puts_of-in s m bytes (laws.ends bytes)) ∙ laws.suits bytes)
+    (ap suited (puts_of-in s m bytes (laws.ends bytes)) ∙ laws.suits bytes)
 
 all-suits : (s : Spec) → CarrierLaws s → (m : ℕ → ℕ) (bytes : List ℕ) → suited (signs_in (puts_of s m bytes)) ≡ true
 all-suits s laws m bytes = ap suited (puts_of-in s m bytes (laws.ends bytes)) ∙ laws.suits bytes
@@ -182,9 +194,9 @@ carried-grows laws grows (s ∷ specs) p q suits f =
     let both : suited (signs_in (p ++ f.0)) ≡ true = ap (λ z. suited (signs_in z)) (sym f.1) ∙ suits in
     let h = hop-front s g 0 0 p f.0 (live s (p ++ f.0)) both (g.stays p f.0 both) in
     carried-grows laws grows specs (puts_so_far s (moments_of s 0 p) (live s p))
-        (puts_so_far s (moments_of s 0 q) (live s q)) (so_far-suits s (laws s) (moments_of s 0 q) (live s q))
+    (puts_so_far s (moments_of s 0 q) (live s q)) (so_far-suits s (laws s) (moments_of s 0 q) (live s q))
     (subst (λ (z : List Put). IsFront (puts_so_far s (moments_of s 0 p) (live s p))
-        (puts_so_far s (moments_of s 0 z) (live s z))) (sym f.1) h)
+    (puts_so_far s (moments_of s 0 z) (live s z))) (sym f.1) h)
 
 carried-ends : ((s : Spec) → CarrierLaws s) → ((s : Spec) → GrowLaws s) →
     (specs : List Spec) (end : ℕ) (p q : List Put) → suited (signs_in q) ≡ true →
@@ -195,16 +207,16 @@ carried-ends laws grows (s ∷ specs) end p q suits f =
     let m : ℕ → ℕ = moments_of s end q in
     let both : suited (signs_in (p ++ f.0)) ≡ true = ap (λ z. suited (signs_in z)) (sym f.1) ∙ suits in
     let l = front-then (live s p) (live s (p ++ f.0)) (written s (p ++ f.0)) (g.stays p f.0 both)
-        (g.closes (p ++ f.0) both) in
+    (g.closes (p ++ f.0) both) in
     let h = hop-front s g 0 end p f.0 (written s (p ++ f.0)) both l in
     let t : IsFront (puts_so_far s m (written s q)) (puts_of s m (written s q)) =
-        (puts_at (end_moment s m (written s q)) (told_signs (end_told s (written s q))), refl) in
+    (puts_at (end_moment s m (written s q)) (told_signs (end_told s (written s q))), refl) in
     carried-ends laws grows specs (end_moment s m (written s q)) (puts_so_far s (moments_of s 0 p) (live s p))
-        (puts_of s m (written s q)) (all-suits s (laws s) m (written s q))
+    (puts_of s m (written s q)) (all-suits s (laws s) m (written s q))
     (front-then (puts_so_far s (moments_of s 0 p) (live s p)) (puts_so_far s m (written s q))
-        (puts_of s m (written s q))
+    (puts_of s m (written s q))
     (subst (λ (z : List Put). IsFront (puts_so_far s (moments_of s 0 p) (live s p))
-        (puts_so_far s (moments_of s end z) (written s z))) (sym f.1) h) t)
+    (puts_so_far s (moments_of s end z) (written s z))) (sym f.1) h) t)
 
 carried-suits : ((s : Spec) → CarrierLaws s) → (specs : List Spec) (end : ℕ) (p : List Put) →
     suited (signs_in p) ≡ true → suited (signs_in (carried specs end p)) ≡ true
@@ -212,7 +224,7 @@ carried-suits laws [] end p suits = suits
 carried-suits laws (s ∷ specs) end p suits =
     let m : ℕ → ℕ = moments_of s end p in
     carried-suits laws specs (end_moment s m (written s p)) (puts_of s m (written s p))
-        (all-suits s (laws s) m (written s p))
+    (all-suits s (laws s) m (written s p))
 
 so_far-carried : ((s : Spec) → CarrierLaws s) → (specs : List Spec) (p : List Put) → suited (signs_in p) ≡ true →
     suited (signs_in (carried_so_far specs p)) ≡ true
@@ -245,13 +257,13 @@ live-ends laws grows first between last bytes more =
     let q : List Put = puts_of first none_set all in
     let suits : suited (signs_in q) ≡ true = all-suits first (laws first) none_set all in
     let f : IsFront p q = front-then p (puts_so_far first none_set all) q
-        (known-front first (grows first) none_set bytes all (more, refl))
-        (puts_at end (told_signs (end_told first all)), refl) in
+    (known-front first (grows first) none_set bytes all (more, refl))
+    (puts_at end (told_signs (end_told first all)), refl) in
     let c = carried-ends laws grows between end p q suits f in
     let good : suited (signs_in (carried_so_far between p ++ c.0)) ≡ true = ap (λ z. suited (signs_in z)) (sym c.1)
-        ∙ carried-suits laws between end q suits in
+    ∙ carried-suits laws between end q suits in
     subst (λ (z : List Put). IsFront (live last (carried_so_far between p)) (written last z)) (sym c.1)
     (front-then (live last (carried_so_far between p)) (live last (carried_so_far between p ++ c.0))
-        (written last (carried_so_far between p ++ c.0))
+    (written last (carried_so_far between p ++ c.0))
     ((grows last).stays (carried_so_far between p) c.0 good)
-        ((grows last).closes (carried_so_far between p ++ c.0) good))
+    ((grows last).closes (carried_so_far between p ++ c.0) good))

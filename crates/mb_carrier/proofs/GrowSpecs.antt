@@ -46,8 +46,12 @@ usb-place : (cable : ℕ) (bytes : List ℕ) → Each (In 0 (length bytes)) (cab
 usb-place cable bytes =
     let m = usb (only_cable cable) in
     one-in m (only_low cable) (whole 0 m.start [] (λ _. din_state.fresh)) [] bytes [] (cable_so_far cable bytes) []
-    (record { with_port = []; holds = start-holds m 1 (λ _. din_state.fresh) (omega arith)
-        (λ c h. new_stands din_state.fresh refl); told_is = refl })
+    (record {
+      with_port = [];
+      holds = start-holds m 1 (λ _. din_state.fresh) (omega arith)
+          (λ c h. new_stands din_state.fresh refl);
+      told_is = refl;
+    })
     (only_law cable bytes ∙ sym (append-nil (cable_so_far cable bytes)))
 
 pub grows : (s : Spec) → GrowLaws s

@@ -33,7 +33,7 @@ all-remarks s bytes =
     let read = read-ends s bytes in
     ap stream.notes_of read.1
     ∙ (flat_map-append (λ (p : Part). note_in p.told) (map part_of (known s bytes))
-        (map (part_at read.0) (end_told s bytes))
+    (map (part_at read.0) (end_told s bytes))
     ∙ (ap (λ xs. xs ++ stream.notes_of (map (part_at read.0) (end_told s bytes))) (known-remarks (known s bytes))
     ∙ (ap (λ xs. remarks (told_of (known s bytes)) ++ xs) (end-remarks read.0 (end_told s bytes))
     ∙ sym (flat_map-append note_in (told_of (known s bytes)) (end_told s bytes)))))

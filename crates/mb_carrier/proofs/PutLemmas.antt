@@ -1,6 +1,6 @@
 -- Marks with their moments, and without.
-use Rattle.std.proofs.Common.{◌≡◌, ℕ, ◌+◌, List, [], ◌∷◌, ◌++◌, map, length, refl, sym, ◌∙◌, ap, ap₂, subst,
-    append_assoc, arith, length-append}
+use Rattle.std.proofs.Common.{◌≡◌, ℕ, ◌+◌, List, [], ◌∷◌, ◌++◌, map, length, refl, sym, ◌∙◌, ap, ap₂, subst}
+use Rattle.std.proofs.Common.{append_assoc, arith, length-append}
 use Rattle.mb_message.specs.Signs.{Sign}
 use Rattle.mb_stream.specs.Told.{Known, Told, Marks, Notes}
 use Rattle.mb_stream.specs.Reading.{sign_in}
@@ -10,8 +10,8 @@ use Rattle.mb_stream.specs.Puts.{Put, At, Flush, signs_in, puts_at}
 use Rattle.mb_stream.proofs.OrderLemmas.{Each}
 use Rattle.mb_stream.proofs.PutsLemmas.{signs_in-append, signs_in-at, signs_in-more, signs_in-flush}
 use Rattle.mb_stream.specs.Reading.{told_signs}
-use Rattle.mb_carrier.specs.Carrier.{known, known_signs, end_told, marks_of, marks_so_far, moment_of, put_in,
-    puts_known, puts_so_far, puts_of, end_moment}
+use Rattle.mb_carrier.specs.Carrier.{known, known_signs, end_told, marks_of, marks_so_far, moment_of, put_in}
+use Rattle.mb_carrier.specs.Carrier.{puts_known, puts_so_far, puts_of, end_moment}
 use Rattle.mb_carrier.specs.Hop.{IsAtMoment, HaveMoment, Puts}
 use Rattle.mb_carrier.specs.declared.spec.Spec.{Spec}
 
@@ -66,12 +66,12 @@ pub puts_of-in : (s : Spec) (moments : ℕ → ℕ) (bytes : List ℕ) →
 puts_of-in s moments bytes ends =
     signs_in-append (puts_so_far s moments bytes) (puts_at (end_moment s moments bytes) (told_signs (end_told s bytes)))
     ∙ (ap₂ (λ xs ys. xs ++ ys) (so_far-in s moments bytes)
-        (signs_in-at (end_moment s moments bytes) (told_signs (end_told s bytes))) ∙ sym ends)
+    (signs_in-at (end_moment s moments bytes) (told_signs (end_told s bytes))) ∙ sym ends)
 
 -- what is left of a piece has its moment
 pub moments-left : (moments : ℕ → ℕ) (moment : ℕ) (bytes piece taken rest : List ℕ) → piece ≡ taken ++ rest →
     HaveMoment moments (length bytes) (length piece) moment →
-        HaveMoment moments (length (bytes ++ taken)) (length rest) moment
+    HaveMoment moments (length (bytes ++ taken)) (length rest) moment
 moments-left moments moment bytes piece taken rest cut h = λ i low high.
     let a : length piece ≡ length taken + length rest = ap length cut ∙ length-append taken rest in
     let b : length (bytes ++ taken) ≡ length bytes + length taken = length-append bytes taken in
@@ -87,10 +87,10 @@ pub written-by : (live : List Sign → List ℕ) (was : List Sign → Type 0) (m
     (held kept : List ℕ) →
     ((marks : List Sign) → was marks → Appended held kept (live marks) (live (marks ++ signs))) →
     (puts : List Put) → was (signs_in puts) →
-        Appended held kept (live (signs_in puts)) (live (signs_in (puts ++ puts_at moment signs)))
+    Appended held kept (live (signs_in puts)) (live (signs_in (puts ++ puts_at moment signs)))
 written-by live was moment signs held kept says puts w =
     subst (λ (marks : List Sign). Appended held kept (live (signs_in puts)) (live marks))
-        (sym (signs_in-more puts moment signs)) (says (signs_in puts) w)
+    (sym (signs_in-more puts moment signs)) (says (signs_in puts) w)
 
 -- a flush that does nothing
 pub flush_stands-by : (was : List Sign → Type 0) (puts : List Put) → was (signs_in puts) →
@@ -101,14 +101,14 @@ pub flush_written-by : (live : List Sign → List ℕ) (held : List ℕ) (puts :
     Appended held held (live (signs_in puts)) (live (signs_in (puts ++ Flush ∷ [])))
 flush_written-by live held puts =
     subst (λ (marks : List Sign). Appended held held (live (signs_in puts)) (live marks)) (sym (signs_in-flush puts))
-        (Appended-nothing held (live (signs_in puts)))
+    (Appended-nothing held (live (signs_in puts)))
 
 -- what a writer says of its puts, from any bytes that were handed on before
 pub puts-all : (live : List Put → List ℕ) (was now : List Put → Type 0) (puts : List Put) (held kept : List ℕ) →
     ((before : List Put) → was before → now (before ++ puts)) →
-        ((before : List Put) → was before → Appended held kept (live before) (live (before ++ puts))) →
+    ((before : List Put) → was before → Appended held kept (live before) (live (before ++ puts))) →
     (before : List Put) (base : List ℕ) → was before → live before ≡ base ++ held →
-        Puts live was now puts held kept before base
+    Puts live was now puts held kept before base
 puts-all live was now puts held kept stands appends before base w e = record {
   stands = stands before w;
   bytes = sym (Appended-behind base held kept (live before) (live (before ++ puts)) (sym e) (appends before w));

@@ -1,6 +1,6 @@
 -- What a reader tells, as marks with their moments: they suit, at the bytes and at the end.
-use Rattle.std.proofs.Common.{◌≡◌, ℕ, Bool, true, false, Option, Some, None, List, [], ◌∷◌, ◌++◌, map, length, refl,
-    sym, ◌∙◌, ap, subst}
+use Rattle.std.proofs.Common.{◌≡◌, ℕ, Bool, true, false, Option, Some, None, List, [], ◌∷◌, ◌++◌, map, length, refl}
+use Rattle.std.proofs.Common.{sym, ◌∙◌, ap, subst}
 use Rattle.mb_message.specs.Signs.{Sign, signs_of_event}
 use Rattle.mb_message.specs.declared.event.Seen.{Seen}
 use Rattle.mb_message.specs.declared.event.Seen.TheVariants as seen
@@ -30,7 +30,7 @@ abbrev pub Goes : Spec → (was now : List ℕ → List Known → Type 0) → (a
     Type 0
 Goes s was now at input left answer =
     (bytes : List ℕ) (told : List Known) → was bytes told → IsFront told (known s (bytes ++ input)) →
-        ReaderGoes s now at input left answer bytes told
+    ReaderGoes s now at input left answer bytes told
 
 pub goes-spec : (s other : Spec) (was now : List ℕ → List Known → Type 0) (at : ℕ → ℕ) (input left : List ℕ)
     (answer : List Told) →
@@ -72,7 +72,7 @@ pub suited-so_far : (s : Spec) (moments : ℕ → ℕ) → Reads s → (bytes : 
     suited (signs_in (puts_so_far s moments bytes)) ≡ true
 suited-so_far s moments laws bytes =
     ap suited (so_far-in s moments bytes) ∙ suited-front (marks_so_far s bytes) (told_signs (end_told s bytes))
-        (ap suited (sym (laws.ends bytes)) ∙ laws.suits bytes)
+    (ap suited (sym (laws.ends bytes)) ∙ laws.suits bytes)
 
 pub suited-all : (s : Spec) (moments : ℕ → ℕ) → Reads s → (bytes : List ℕ) →
     suited (signs_in (puts_of s moments bytes)) ≡ true
@@ -84,4 +84,4 @@ pub puts-end : (s : Spec) (moments : ℕ → ℕ) (m : ℕ) (bytes : List ℕ) (
     puts_of s moments bytes ≡ puts_so_far s moments bytes ++ puts_at m (told_signs told)
 puts-end s moments m bytes told e f =
     ap (λ n. puts_so_far s moments bytes ++ puts_at n (told_signs (end_told s bytes))) f
-        ∙ ap (λ ts. puts_so_far s moments bytes ++ puts_at m (told_signs ts)) (sym e)
+    ∙ ap (λ ts. puts_so_far s moments bytes ++ puts_at m (told_signs ts)) (sym e)

@@ -53,7 +53,7 @@ abbrev pub OnItsWay : (s t : Spec) (moments : ℕ → ℕ) (at : ℕ → ℕ) (r
     (writer : List Put → Type 0) (bytes : List ℕ) (left : Option Piece) (puts : List Put) (base held : List ℕ) → Type 0
 OnItsWay s t moments at reader writer bytes (Some p) puts base held =
     Flows s t moments p.moment reader writer bytes p.rest.now
-        (puts_at (at p.moment) (signs_of_event p.ev)) puts base held
+    (puts_at (at p.moment) (signs_of_event p.ev)) puts base held
 OnItsWay s t moments at reader writer bytes None puts base held = Through s t moments reader writer bytes puts base held
 
 abbrev pub AllAt : (apart : Bool) (at : ℕ) (done : List Put) → Type 0

@@ -1,7 +1,7 @@
 //! Readers and writers of one port, as a hop's loop sees them: it is written once, over these traits.
 
-ghost use Rattle.std.specs.Prelude.{◌≡◌, ℕ, ◌+◌, ◌*◌, ◌^◌, ◌<◌, ◌≤◌, Bool, true, false, List, [], ◌∷◌, ◌++◌, length,
-    OnSome, IfSome, IfNone};
+ghost use Rattle.std.specs.Prelude.{◌≡◌, ℕ, ◌+◌, ◌*◌, ◌^◌, ◌<◌, ◌≤◌, Bool, true, false, List, [], ◌∷◌, ◌++◌, length};
+ghost use Rattle.std.specs.Prelude.{OnSome, IfSome, IfNone};
 ghost use Rattle.arrayvec.specs.ArrayVec.{array_vec_len};
 ghost use Rattle.mb_message.specs.Signs.{suits_event, IsRunOf, open_behind, signs_of_event};
 ghost use Rattle.mb_stream.specs.Appended.{Appended};
@@ -12,8 +12,8 @@ ghost use Rattle.mb_stream.specs.ReaderLaw.{IsLongest, breaks};
 ghost use Rattle.mb_stream.specs.ReaderLaw.{answer};
 ghost use Rattle.mb_message.specs.Front.{IsFront};
 ghost use Rattle.mb_stream.specs.Reading.{told_signs};
-ghost use Rattle.mb_carrier.specs.Carrier.{known, end_told, marks_of, marks_so_far, last_byte_moment, end_moment,
-    room_of, longest_of, live, written};
+ghost use Rattle.mb_carrier.specs.Carrier.{known, end_told, marks_of, marks_so_far, last_byte_moment, end_moment};
+ghost use Rattle.mb_carrier.specs.Carrier.{room_of, longest_of, live, written};
 ghost use Rattle.mb_carrier.specs.Hop.{ReaderGoes};
 ghost use Rattle.mb_carrier.specs.declared.spec.Spec.{Spec};
 
@@ -67,7 +67,7 @@ pub trait EventReader {
         ensures goes { (bytes : List ℕ) (told : List Known) → stands self.old bytes told →
             IsFront told (known (spec self.old) (bytes ++ input.old.now)) →
             ReaderGoes (spec self.old) (stands self.new) (moment self.new) input.old.now input.new.now
-                (answer result) bytes told }
+            (answer result) bytes told }
         ensures all_told { IfNone result ((bytes : List ℕ) (told : List Known) → stands self.old bytes told →
             IsFront told (known (spec self.old) (bytes ++ input.old.now)) →
             told ≡ known (spec self.old) (bytes ++ input.old.now)) };
@@ -85,7 +85,7 @@ pub trait EventReader {
         ensures at { (bytes : List ℕ) → stands self.old bytes (known (spec self.old) bytes) →
             (moments : ℕ → ℕ) (moment_set : ℕ) →
             last_byte_moment moments (length bytes) ≡ moment_set →
-                end_moment (spec self.old) moments bytes ≡ moment self.new moment_set };
+            end_moment (spec self.old) moments bytes ≡ moment self.new moment_set };
 
     /// The moment of what was told last, where this one was set.
     fn moment(&self, moment_set: u64) -> u64

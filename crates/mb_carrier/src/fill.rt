@@ -1,8 +1,8 @@
 //! One hop's loop: a piece is read on and each event written into a buffer, until the piece is used up, the buffer is
 //! full, or the next event has another moment.
 
-ghost use Rattle.std.specs.Prelude.{◌≡◌, ℕ, ◌+◌, ◌*◌, ◌^◌, ◌<◌, ◌≤◌, true, false, List, [], ◌++◌, map, length, Some,
-    IfSome, IfNone};
+ghost use Rattle.std.specs.Prelude.{◌≡◌, ℕ, ◌+◌, ◌*◌, ◌^◌, ◌<◌, ◌≤◌, true, false, List, [], ◌++◌, map, length, Some};
+ghost use Rattle.std.specs.Prelude.{IfSome, IfNone};
 ghost use Rattle.arrayvec.specs.ArrayVec.{array_vec_len};
 ghost use Rattle.mb_message.specs.Signs.{ByteSign, suits_event, signs_of_event, IsRunOf, open_behind};
 ghost use Rattle.mb_stream.specs.Puts.{Put, puts_at};
@@ -28,18 +28,18 @@ pub(crate) fn fill_pair<'a, R: EventReader, W: EventWriter>(
     requires empty { held.old.items ≡ [] }
     requires flows { (moments : ℕ → ℕ) × (bytes : List ℕ) × (puts : List Put) × (base : List ℕ) ×
         OnItsWay (R.spec reader.old) (W.spec writer.old) moments (R.moment reader.old) (R.stands reader.old)
-            (W.stands writer.old)
+        (W.stands writer.old)
         bytes (Some piece) puts base held.old.items }
     ensures reads { R.spec reader.new ≡ R.spec reader.old }
     ensures writes { W.spec writer.new ≡ W.spec writer.old }
     ensures offset { R.offset reader.new + unread result ≡ R.offset reader.old + length piece.entry.rest.now }
     ensures goes_on { (moments : ℕ → ℕ) (bytes : List ℕ) (puts : List Put) (base : List ℕ) →
         OnItsWay (R.spec reader.old) (W.spec writer.old) moments (R.moment reader.old) (R.stands reader.old)
-            (W.stands writer.old)
+        (W.stands writer.old)
         bytes (Some piece.entry) puts base held.old.items →
         More apart (R.moment reader.old piece.entry.moment) puts (λ ps.
         OnItsWay (R.spec reader.old) (W.spec writer.old) moments (R.moment reader.new) (R.stands reader.new)
-            (W.stands writer.new)
+        (W.stands writer.new)
         bytes result ps base held.new.items) }
     ensures moment { HasMoment piece.entry.moment result }
     ensures progress { work (R.owed reader.new) result < work (R.owed reader.old) (Some piece.entry) }
@@ -64,18 +64,18 @@ fn fill_buffer<'a, R: EventReader, W: EventWriter>(
     requires empty { held.old.items ≡ [] }
     requires flows { (moments : ℕ → ℕ) × (bytes : List ℕ) × (puts : List Put) × (base : List ℕ) ×
         OnItsWay (R.spec reader.old) (W.spec writer.old) moments (R.moment reader.old) (R.stands reader.old)
-            (W.stands writer.old)
+        (W.stands writer.old)
         bytes (Some piece) puts base held.old.items }
     ensures reads { R.spec reader.new ≡ R.spec reader.old }
     ensures writes { W.spec writer.new ≡ W.spec writer.old }
     ensures offset { R.offset reader.new + unread result ≡ R.offset reader.old + length piece.entry.rest.now }
     ensures goes_on { (moments : ℕ → ℕ) (bytes : List ℕ) (puts : List Put) (base : List ℕ) →
         OnItsWay (R.spec reader.old) (W.spec writer.old) moments (R.moment reader.old) (R.stands reader.old)
-            (W.stands writer.old)
+        (W.stands writer.old)
         bytes (Some piece.entry) puts base held.old.items →
         More apart (R.moment reader.old piece.entry.moment) puts (λ ps.
         OnItsWay (R.spec reader.old) (W.spec writer.old) moments (R.moment reader.new) (R.stands reader.new)
-            (W.stands writer.new)
+        (W.stands writer.new)
         bytes result ps base held.new.items) }
     ensures moment { HasMoment piece.entry.moment result }
     ensures progress { work (R.owed reader.new) result < work (R.owed reader.old) (Some piece.entry) }
@@ -124,14 +124,14 @@ fn read_on<'a, R: EventReader, W: EventWriter>(
         Flows (R.spec reader.old) (W.spec writer.old) moments moment (R.stands reader.old) (W.stands writer.old)
         bytes rest.old.now [] puts base held.old.items →
         More apart at puts (λ ps. Flows (R.spec reader.old) (W.spec writer.old) moments moment (R.stands reader.new)
-            (W.stands writer.new)
+        (W.stands writer.new)
         bytes rest.new.now (puts_at (R.moment reader.new moment) (signs_of_event ev)) ps base held.new.items)) }
     ensures empty { IfNone result (rest.new.now ≡ []) }
     ensures done { IfNone result ((moments : ℕ → ℕ) (bytes : List ℕ) (puts : List Put) (base : List ℕ) →
         Flows (R.spec reader.old) (W.spec writer.old) moments moment (R.stands reader.old) (W.stands writer.old)
         bytes rest.old.now [] puts base held.old.items →
         More apart at puts (λ ps. Through (R.spec reader.old) (W.spec writer.old) moments (R.stands reader.new)
-            (W.stands writer.new)
+        (W.stands writer.new)
         bytes ps base held.new.items)) }
     ensures short { IfSome result (λ ev. length (signs_of_event ev) < 2 ^ 64) }
     ensures progress { IfSome result

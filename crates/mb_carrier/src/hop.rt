@@ -3,8 +3,8 @@
 ghost use Rattle.std.specs.Prelude.{◌≡◌, ℕ, ◌+◌, ◌^◌, ◌<◌, ◌≤◌, List, [], length, Some};
 ghost use Rattle.mb_stream.specs.Puts.{Put};
 ghost use Rattle.mb_carrier.specs.Fill.{OnItsWay, More, unread, work, HasMoment};
-ghost use Rattle.mb_carrier.specs.Port.{reader_spec, reader_offset, reader_owed, reader_moment, ReaderStands,
-    writer_spec, WriterStands};
+ghost use Rattle.mb_carrier.specs.Port.{reader_spec, reader_offset, reader_owed, reader_moment, ReaderStands};
+ghost use Rattle.mb_carrier.specs.Port.{writer_spec, WriterStands};
 
 use crate::fill::fill_pair;
 use crate::reader::{PortReader, ReaderOf};
@@ -26,18 +26,18 @@ pub fn fill_hop<'a>(
     requires empty { held.old.items ≡ [] }
     requires flows { (moments : ℕ → ℕ) × (bytes : List ℕ) × (puts : List Put) × (base : List ℕ) ×
         OnItsWay (reader_spec reader.old) (writer_spec writer.old) moments (reader_moment reader.old)
-            (ReaderStands reader.old)
+        (ReaderStands reader.old)
         (WriterStands writer.old) bytes (Some piece) puts base held.old.items }
     ensures reads { reader_spec reader.new ≡ reader_spec reader.old }
     ensures writes { writer_spec writer.new ≡ writer_spec writer.old }
     ensures offset { reader_offset reader.new + unread result ≡ reader_offset reader.old + length piece.entry.rest.now }
     ensures goes_on { (moments : ℕ → ℕ) (bytes : List ℕ) (puts : List Put) (base : List ℕ) →
         OnItsWay (reader_spec reader.old) (writer_spec writer.old) moments (reader_moment reader.old)
-            (ReaderStands reader.old)
+        (ReaderStands reader.old)
         (WriterStands writer.old) bytes (Some piece.entry) puts base held.old.items →
         More apart (reader_moment reader.old piece.entry.moment) puts (λ ps.
         OnItsWay (reader_spec reader.old) (writer_spec writer.old) moments (reader_moment reader.new)
-            (ReaderStands reader.new)
+        (ReaderStands reader.new)
         (WriterStands writer.new) bytes result ps base held.new.items) }
     ensures moment { HasMoment piece.entry.moment result }
     ensures progress { work (reader_owed reader.new) result < work (reader_owed reader.old) (Some piece.entry) }

@@ -4,8 +4,8 @@ ghost use Rattle.std.specs.Prelude.{◌≡◌, ℕ, ◌+◌, ◌^◌, ◌≤◌,
 ghost use Rattle.mb_outside.specs.Cause.{HasCause};
 ghost use Rattle.mb_carrier.specs.Carrier.{whole};
 ghost use Rattle.mb_carrier.specs.Word.{IsSpec};
-ghost use Rattle.mb_carrier.specs.Listed.{listing_spec, listing_traced, listing_offset, listing_noted, ListingStands,
-    ListingFed, ListingHalted, ListingEnded, ListingEndHalted};
+ghost use Rattle.mb_carrier.specs.Listed.{listing_spec, listing_traced, listing_offset, listing_noted, ListingStands};
+ghost use Rattle.mb_carrier.specs.Listed.{ListingFed, ListingHalted, ListingEnded, ListingEndHalted};
 
 use crate::listing::{list_end, list_piece};
 use crate::{PortReader, Spec};
@@ -71,13 +71,7 @@ impl Listing {
         ensures fed { OnOk result (ListingFed self.old self.new piece.now (λ given. K.took out.old given out.new)) }
         ensures halted { OnErr result (ListingHalted self.old piece.now (λ given. K.took out.old given out.new)) }
     {
-        list_piece(
-            &mut self.reader,
-            self.traced,
-            &mut self.noted,
-            piece,
-            out,
-        )
+        list_piece(&mut self.reader, self.traced, &mut self.noted, piece, out)
     }
 
     /// Prints what only the end makes known. After `Refused` a front of it was handed on.

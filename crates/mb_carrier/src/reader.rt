@@ -1,7 +1,7 @@
 //! A reader of whatever port a spec names.
 
-ghost use Rattle.std.specs.Prelude.{◌≡◌, ℕ, ◌+◌, ◌*◌, ◌^◌, true, ◌<◌, ◌≤◌, not, List, [], ◌++◌, length, OnSome,
-    IfSome, IfNone};
+ghost use Rattle.std.specs.Prelude.{◌≡◌, ℕ, ◌+◌, ◌*◌, ◌^◌, true, ◌<◌, ◌≤◌, not, List, [], ◌++◌, length, OnSome, IfSome};
+ghost use Rattle.std.specs.Prelude.{IfNone};
 ghost use Rattle.mb_stream.specs.Told.{Known};
 ghost use Rattle.mb_stream.specs.Reading.{told_signs};
 ghost use Rattle.mb_stream.specs.ReaderLaw.{IsLongest, breaks};
@@ -9,10 +9,10 @@ ghost use Rattle.mb_stream.specs.ReaderLaw.{answer};
 ghost use Rattle.mb_message.specs.Front.{IsFront};
 ghost use Rattle.mb_carrier.specs.Carrier.{known, end_told, last_byte_moment, end_moment, whole};
 ghost use Rattle.mb_carrier.specs.Hop.{ReaderGoes};
-ghost use Rattle.mb_carrier.specs.Port.{reader_spec, reader_offset, reader_owed, reader_moment, moment_set, beside,
-    is_partial, ReaderStands, ReaderRests, BrokenNext};
-ghost use Rattle.mb_carrier.specs.Port.{reader_spec_by, reader_offset_by, reader_owed_by, reader_moment_by, beside_by,
-    is_partial_by, ReaderStandsBy, ReaderRestsBy, BrokenNextBy};
+ghost use Rattle.mb_carrier.specs.Port.{reader_spec, reader_offset, reader_owed, reader_moment, moment_set, beside};
+ghost use Rattle.mb_carrier.specs.Port.{is_partial, ReaderStands, ReaderRests, BrokenNext};
+ghost use Rattle.mb_carrier.specs.Port.{reader_spec_by, reader_offset_by, reader_owed_by, reader_moment_by, beside_by};
+ghost use Rattle.mb_carrier.specs.Port.{is_partial_by, ReaderStandsBy, ReaderRestsBy, BrokenNextBy};
 ghost use Rattle.mb_carrier.specs.Step.{seen_in, seen_of, IsAt};
 ghost use Rattle.mb_carrier.specs.Word.{IsSpec};
 
@@ -77,13 +77,13 @@ impl PortReader {
         ensures goes { (bytes : List ℕ) (told : List Known) → ReaderStands self.old bytes told →
             IsFront told (known (reader_spec self.old) (bytes ++ input.old.now)) →
             ReaderGoes (reader_spec self.old) (ReaderStands self.new)
-                (reader_moment self.new) input.old.now input.new.now
+            (reader_moment self.new) input.old.now input.new.now
             (answer (seen_of result)) bytes told }
         ensures some { OnSome result (answer (seen_of result) ≡ [] → ⊥) }
         ensures none { IfNone result (input.new.now ≡ []) }
         ensures all_told { IfNone result ((bytes : List ℕ) (told : List Known) → ReaderStands self.old bytes told →
             IsFront told (known (reader_spec self.old) (bytes ++ input.old.now)) →
-                told ≡ known (reader_spec self.old) (bytes ++ input.old.now)) }
+            told ≡ known (reader_spec self.old) (bytes ++ input.old.now)) }
         ensures longest { IfSome result (λ step. IsLongest (beside self.new input.new.now) (seen_in step)) }
 
         // What breaks a message is told of before it is taken: it still stands next, and nothing is begun, running or
@@ -151,8 +151,17 @@ impl Default for PortReader {
 
 // A caller that reads events of any port, and hands over the moment with each call.
 impl EventReader for PortReader {
-    ghost use Rattle.mb_carrier.specs.Port.{reader_spec, reader_offset, reader_owed, reader_moment, beside,
-        is_partial, ReaderStands, ReaderRests, BrokenNext};
+    ghost use Rattle.mb_carrier.specs.Port.{
+      reader_spec,
+      reader_offset,
+      reader_owed,
+      reader_moment,
+      beside,
+      is_partial,
+      ReaderStands,
+      ReaderRests,
+      BrokenNext,
+    };
     ghost use Rattle.mb_carrier.specs.SpecLaws.{known-stays, marks-end, marks-suit};
 
     ghost spec = { λ r. reader_spec r };
@@ -204,13 +213,13 @@ fn next_seen<'a>(carrier: &mut ReaderOf, input: &mut &'a [u8]) -> Option<Seen<'a
     ensures goes { (bytes : List ℕ) (told : List Known) → ReaderStandsBy carrier.old bytes told →
         IsFront told (known (reader_spec_by carrier.old) (bytes ++ input.old.now)) →
         ReaderGoes (reader_spec_by carrier.old) (ReaderStandsBy carrier.new)
-            (reader_moment_by carrier.new) input.old.now input.new.now
+        (reader_moment_by carrier.new) input.old.now input.new.now
         (answer result) bytes told }
     ensures some { OnSome result (answer result ≡ [] → ⊥) }
     ensures none { IfNone result (input.new.now ≡ []) }
     ensures all_told { IfNone result ((bytes : List ℕ) (told : List Known) → ReaderStandsBy carrier.old bytes told →
         IsFront told (known (reader_spec_by carrier.old) (bytes ++ input.old.now)) →
-            told ≡ known (reader_spec_by carrier.old) (bytes ++ input.old.now)) }
+        told ≡ known (reader_spec_by carrier.old) (bytes ++ input.old.now)) }
     ensures longest { IfSome result (IsLongest (beside_by carrier.new input.new.now)) }
     ensures few { length (told_signs (answer result)) ≤ length input.old.now }
     ensures before { breaks (answer result) ≡ true → BrokenNextBy carrier.new input.new.now ×

@@ -89,7 +89,7 @@ impl PortWriter {
             WriterStands self.new (puts ++ puts_at moment (signs_of_event ev.entry)) }
         ensures written { (puts : List Put) → WriterStands self.old puts → Appended out.old.items out.new.items
             (live (writer_spec self.old) puts) (live (writer_spec self.old) (puts ++ puts_at moment
-                (signs_of_event ev.entry))) }
+            (signs_of_event ev.entry))) }
     {
         match &mut self.carrier {
             WriterOf::Din(writer) => EventWriter::put(writer, moment, ev, out),

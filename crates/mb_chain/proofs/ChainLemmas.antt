@@ -1,7 +1,7 @@
 -- A chain is a row of hops that its specs link.
 use Rattle.std.specs.Prelude.{slice_index_or}
-use Rattle.std.proofs.Common.{◌≡◌, ℕ, zero, suc, ◌+◌, ◌<◌, ◌≤◌, ◌^◌, List, [], ◌∷◌, ◌++◌, length, map, take, refl,
-    sym, ◌∙◌, ap, subst, arith, length-append, append_assoc}
+use Rattle.std.proofs.Common.{◌≡◌, ℕ, zero, suc, ◌+◌, ◌<◌, ◌≤◌, ◌^◌, List, [], ◌∷◌, ◌++◌, length, map, take, refl, sym}
+use Rattle.std.proofs.Common.{◌∙◌, ap, subst, arith, length-append, append_assoc}
 use Rattle.std.proofs.lemmas.List.{append-nil, map-append}
 use Rattle.mb_stream.specs.Puts.{Put}
 use Rattle.mb_carrier.specs.Carrier.{known, puts_so_far, puts_known, live, written}
@@ -10,10 +10,11 @@ use Rattle.mb_carrier.specs.Hop.{HaveMoment}
 use Rattle.mb_carrier.specs.Port.{reader_spec, reader_offset, ReaderStands, writer_spec, WriterStands}
 use Rattle.mb_carrier.specs.declared.spec.Spec.{Spec}
 use Rattle.mb_carrier.proofs.GrowSpecs.{grows}
-use Rattle.mb_chain.specs.Row.{Link, link_of, links_from, hands_on, moments_on, writes_all, moments_all, live_over,
-    through_over, HopAt, HaveOne, RowStands, RowDone, IsEarly, EndsEarly, RowFed, RowHalted, RowEnded, RowEndHalted}
-use Rattle.mb_chain.specs.Chain.{links_of, chain_links, is_broken, ChainStands, ChainEnded, ChainFed, ChainHalted,
-    ChainFinished, ChainEndHalted}
+use Rattle.mb_chain.specs.Row.{Link, link_of, links_from, hands_on, moments_on, writes_all, moments_all, live_over}
+use Rattle.mb_chain.specs.Row.{through_over, HopAt, HaveOne, RowStands, RowDone, IsEarly, EndsEarly, RowFed, RowHalted}
+use Rattle.mb_chain.specs.Row.{RowEnded, RowEndHalted}
+use Rattle.mb_chain.specs.Chain.{links_of, chain_links, is_broken, ChainStands, ChainEnded, ChainFed, ChainHalted}
+use Rattle.mb_chain.specs.Chain.{ChainFinished, ChainEndHalted}
 use Rattle.mb_chain.specs.declared.hop.Hop.{Hop}
 use Rattle.mb_chain.specs.declared.chain.Chain.{Chain}
 use Rattle.mb_chain.proofs.EarlyLemmas.{chain-early, chain-ends_early}
@@ -55,9 +56,11 @@ fresh-push (x ∷ xs) h all one = (all.0, fresh-push xs h all.1 one)
 
 pub fresh-row : (hs : List Hop) (moments : ℕ → ℕ) → AllFresh hs → RowStands hs moments []
 fresh-row [] moments all = tt
-fresh-row (h ∷ hs) moments all =
-    (all.0 moments, subst (RowStands hs (moments_on (link_of h) moments [])) (sym (live-empty (link_of h) moments))
-        (fresh-row hs (moments_on (link_of h) moments []) all.1))
+fresh-row (h ∷ hs) moments all = (
+  all.0 moments,
+  subst (RowStands hs (moments_on (link_of h) moments [])) (sym (live-empty (link_of h) moments))
+      (fresh-row hs (moments_on (link_of h) moments []) all.1),
+)
 
 links-push : (hs : List Hop) (h : Hop) (first next : Spec) (others : List Spec) (links : List Link) →
     map link_of hs ++ links_from first (next ∷ others) ≡ links → link_of h ≡ record { reads = first; writes = next } →
@@ -75,7 +78,7 @@ pub links-next : (old new : List Hop) (h : Hop) (first next : Spec) (rest others
 links-next old new h first next rest others links grown cut same e =
     ap (λ (hs : List Hop). map link_of hs ++ links_from next others) grown
     ∙ links-push old h first next others links
-        (ap (λ (ss : List Spec). map link_of old ++ links_from first ss) (sym cut) ∙ e) same
+    (ap (λ (ss : List Spec). map link_of old ++ links_from first ss) (sym cut) ∙ e) same
 
 pub links-done : (hops : List Hop) (first : Spec) (rest : List Spec) (links : List Link) → length rest ≡ 0 →
     map link_of hops ++ links_from first rest ≡ links → map link_of hops ≡ links
@@ -107,7 +110,7 @@ one-moment (l ∷ ls) from count = λ i low high. refl
 
 pub row-may : (chain : Chain) (hops : List Hop) (input : List ℕ) → hops ≡ chain.hops.items →
     ((bytes : List ℕ) × ChainStands chain bytes × (length (bytes ++ input) ≤ 2 ^ 40)) →
-        ((specs : List Spec) × (chain_links chain ≡ links_of specs) × (length specs ≤ 10)) →
+    ((specs : List Spec) × (chain_links chain ≡ links_of specs) × (length specs ≤ 10)) →
     MayFlow (map link_of hops) (RowStands hops) 0 input
 row-may chain hops input same w s = (
   none_set,
@@ -120,7 +123,7 @@ row-may chain hops input same w s = (
 
 pub row-may_end : (chain : Chain) (hops : List Hop) → hops ≡ chain.hops.items →
     ((bytes : List ℕ) × ChainStands chain bytes × (length bytes ≤ 2 ^ 40)) →
-        ((specs : List Spec) × (chain_links chain ≡ links_of specs) × (length specs ≤ 10)) →
+    ((specs : List Spec) × (chain_links chain ≡ links_of specs) × (length specs ≤ 10)) →
     MayEnd (map link_of hops) (RowStands hops)
 row-may_end chain hops same w s = (
   none_set,
@@ -134,10 +137,10 @@ pub chain-fed : (chain now : Chain) (hops hops_now : List Hop) (piece : List ℕ
     hops ≡ chain.hops.items → hops_now ≡ now.hops.items →
     now.fed ≡ chain.fed + length piece → is_broken now ≡ is_broken chain →
     RowFed (map link_of hops) (RowStands hops) (RowStands hops_now) 0 piece took →
-        ChainFed (chain_links chain) (ChainStands chain) (ChainStands now) piece took
+    ChainFed (chain_links chain) (ChainStands chain) (ChainStands now) piece took
 chain-fed chain now hops hops_now piece took same same_now more whole f0 =
     let f = subst (λ (hs : List Hop). RowFed (map link_of hs) (RowStands hs)
-        (RowStands now.hops.items) 0 piece took) same
+    (RowStands now.hops.items) 0 piece took) same
     (subst (λ (hs : List Hop). RowFed (map link_of hops) (RowStands hops) (RowStands hs) 0 piece took) same_now f0) in
     record {
       given = f.given;
@@ -153,16 +156,20 @@ chain-fed chain now hops hops_now piece took same same_now more whole f0 =
 pub chain-halted : (chain : Chain) (hops : List Hop) (piece : List ℕ) (took : List ℕ → Type 0) →
     hops ≡ chain.hops.items →
     RowHalted (map link_of hops) (RowStands hops) 0 piece took →
-        ChainHalted (chain_links chain) (ChainStands chain) piece took
+    ChainHalted (chain_links chain) (ChainStands chain) piece took
 chain-halted chain hops piece took same f0 =
     let f = subst (λ (hs : List Hop). RowHalted (map link_of hs) (RowStands hs) 0 piece took) same f0 in
-    record { given = f.given; took_it = f.took_it; front = λ bytes h. f.front none_set bytes h.row
-        (one-moment (chain_links chain) (length bytes) (length piece)) }
+    record {
+      given = f.given;
+      took_it = f.took_it;
+      front = λ bytes h. f.front none_set bytes h.row
+          (one-moment (chain_links chain) (length bytes) (length piece));
+    }
 
 pub chain-finished : (chain now : Chain) (hops hops_now : List Hop) (took : List ℕ → Type 0) →
     hops ≡ chain.hops.items → hops_now ≡ now.hops.items → now.fed ≡ chain.fed →
     RowEnded (map link_of hops) (RowStands hops) (RowDone hops_now) took →
-        ChainFinished (chain_links chain) (ChainStands chain) (ChainEnded now) took
+    ChainFinished (chain_links chain) (ChainStands chain) (ChainEnded now) took
 chain-finished chain now hops hops_now took same same_now fed f0 =
     let f = subst (λ (hs : List Hop). RowEnded (map link_of hs) (RowStands hs) (RowDone now.hops.items) took) same
     (subst (λ (hs : List Hop). RowEnded (map link_of hops) (RowStands hops) (RowDone hs) took) same_now f0) in
@@ -203,7 +210,7 @@ pub crossed-place : (items hops : List Hop) (i n : ℕ) (d : Hop) (bytes : List 
 crossed-place items hops i n d bytes same place within row =
     ap (λ (hs : List Hop). (slice_index_or hs n d).wrote) same
     ∙ (crossed-at hops n d none_set bytes (omega (arith, place, within)) row
-        ∙ ap (λ k. length (live_over (take k (map link_of hops)) none_set bytes)) place)
+    ∙ ap (λ k. length (live_over (take k (map link_of hops)) none_set bytes)) place)
 
 pub crossed_all-place : (items hops : List Hop) (i n : ℕ) (d : Hop) (bytes : List ℕ) → items ≡ hops → suc n ≡ i →
     i ≤ length hops → RowDone hops none_set bytes →
@@ -211,7 +218,7 @@ pub crossed_all-place : (items hops : List Hop) (i n : ℕ) (d : Hop) (bytes : L
 crossed_all-place items hops i n d bytes same place within row =
     ap (λ (hs : List Hop). (slice_index_or hs n d).wrote) same
     ∙ (crossed_all-at hops n d none_set bytes (omega (arith, place, within)) row
-        ∙ ap (λ k. length (through_over (take k (map link_of hops)) none_set bytes)) place)
+    ∙ ap (λ k. length (through_over (take k (map link_of hops)) none_set bytes)) place)
 
 pub links-length : (hops : List Hop) → length (map link_of hops) ≡ length hops
 links-length [] = refl

@@ -1,7 +1,7 @@
 -- All that crosses a chain of specs is short, by the laws of carriers alone: at most one mark more a hop, at most
 -- 1,024 bytes a mark.
-use Rattle.std.proofs.Common.{◌≡◌, ℕ, ◌+◌, ◌*◌, ◌≤◌, ◌^◌, Bool, true, false, ◌&&◌, List, [], ◌∷◌, ◌++◌, length, refl,
-    sym, ◌∙◌, ap, arith, length-append}
+use Rattle.std.proofs.Common.{◌≡◌, ℕ, ◌+◌, ◌*◌, ◌≤◌, ◌^◌, Bool, true, false, ◌&&◌, List, [], ◌∷◌, ◌++◌, length, refl}
+use Rattle.std.proofs.Common.{sym, ◌∙◌, ap, arith, length-append}
 use Rattle.std.specs.List.{list_all}
 use Rattle.mb_message.specs.Signs.{Sign}
 use Rattle.mb_stream.specs.Puts.{Put, signs_in}
@@ -9,8 +9,8 @@ use Rattle.mb_stream.specs.Standing.{suited, is_valid, AreValid}
 use Rattle.mb_stream.proofs.StandingLemmas.{both}
 use Rattle.mb_message.specs.Front.{IsFront}
 use Rattle.mb_stream.specs.Reading.{told_signs}
-use Rattle.mb_carrier.specs.Carrier.{known, end_told, marks_of, marks_so_far, puts_so_far, puts_of, known_signs, live,
-    written}
+use Rattle.mb_carrier.specs.Carrier.{known, end_told, marks_of, marks_so_far, puts_so_far, puts_of, known_signs, live}
+use Rattle.mb_carrier.specs.Carrier.{written}
 use Rattle.mb_carrier.specs.declared.spec.Spec.{Spec}
 use Rattle.mb_carrier.proofs.ConversionLemmas.{laws, hop-in, hop-suits, hop-valid}
 use Rattle.mb_carrier.proofs.GrowSpecs.{grows}
@@ -42,8 +42,8 @@ so_far-valid : (s : Spec) (moments : ℕ → ℕ) (bytes : List ℕ) → AreVali
 so_far-valid s moments bytes =
     valid_at (marks_so_far s bytes) (signs_in (puts_so_far s moments bytes)) (sym (so_far-in s moments bytes))
     (valid-front (marks_so_far s bytes) (told_signs (end_told s bytes))
-        (valid_at (marks_of s bytes) (marks_so_far s bytes ++ told_signs (end_told s bytes)) ((reads s).ends bytes)
-        ((laws s).valid bytes)))
+    (valid_at (marks_of s bytes) (marks_so_far s bytes ++ told_signs (end_told s bytes)) ((reads s).ends bytes)
+    ((laws s).valid bytes)))
   where
     valid_at : (ms ns : List Sign) → ms ≡ ns → AreValid ms → AreValid ns
     valid_at ms ns e h = ap (list_all is_valid) (sym e) ∙ h
@@ -55,18 +55,23 @@ known-front s xs ys f =
 
 live-short : (t : Spec) (ps : List Put) → suited (signs_in ps) ≡ true →
     length (live t ps) ≤ 1024 * length (signs_in ps) + 1024
-live-short t ps suits = omega (arith, front-length (live t ps) (written t ps) ((grows t).closes ps suits),
-    (laws t).size ps suits)
+live-short t ps suits = omega (
+  arith,
+  front-length (live t ps) (written t ps) ((grows t).closes ps suits),
+  (laws t).size ps suits,
+)
 
 -- what is known of what is written so far is at most one mark more
 live-one_more : (t : Spec) (ps : List Put) → suited (signs_in ps) ≡ true → AreValid (signs_in ps) →
     length (marks_so_far t (live t ps)) ≤ length (signs_in ps) + 1
 live-one_more t ps suits valid =
     omega (
-    arith, front-length (marks_so_far t (live t ps)) (marks_so_far t (written t ps))
-        (known-front t (live t ps) (written t ps) ((grows t).closes ps suits)),
-    front-length (marks_so_far t (written t ps)) (marks_of t (written t ps)) (marks-front t (written t ps)),
-        (laws t).one_more ps suits valid)
+      arith,
+      front-length (marks_so_far t (live t ps)) (marks_so_far t (written t ps))
+          (known-front t (live t ps) (written t ps) ((grows t).closes ps suits)),
+      front-length (marks_so_far t (written t ps)) (marks_of t (written t ps)) (marks-front t (written t ps)),
+      (laws t).one_more ps suits valid,
+    )
 
 pub early-by : (s : Spec) (specs : List Spec) (moments : ℕ → ℕ) (bytes : List ℕ) →
     length (marks_so_far s bytes) + length specs ≤ 2 ^ 41 + 10 →
@@ -92,10 +97,16 @@ ends-early-by s (t ∷ ts) moments bytes few =
     let suits : suited (signs_in ps) ≡ true = hop-suits s moments bytes in
     let same : length (signs_in ps) ≡ length (marks_of s bytes) = ap length (hop-in s moments bytes) in
     let more : length (marks_of t (written t ps)) ≤ length (signs_in ps) + 1 = (laws t).one_more ps suits
-        (hop-valid s moments bytes) in (
+    (hop-valid s moments bytes) in (
       early-by t ts (moments_all l moments bytes) (written t ps)
-          (omega (arith, front-length (marks_so_far t (written t ps)) (marks_of t (written t ps))
-              (marks-front t (written t ps)), more, few, same))
+          (omega (
+            arith,
+            front-length (marks_so_far t (written t ps)) (marks_of t (written t ps))
+                (marks-front t (written t ps)),
+            more,
+            few,
+            same,
+          ))
           (omega (arith, (laws t).size ps suits, few, same)),
       ends-early-by t ts (moments_all l moments bytes) (written t ps) (omega (arith, more, few, same)),
     )
@@ -104,8 +115,14 @@ ends-early-by s (t ∷ ts) moments bytes few =
 pub chain-early : (s : Spec) (specs : List Spec) (moments : ℕ → ℕ) (bytes : List ℕ) → length specs ≤ 10 →
     length bytes ≤ 2 ^ 40 → IsEarly (links_from s specs) moments bytes
 chain-early s specs moments bytes few short =
-    early-by s specs moments bytes (omega (arith, front-length (marks_so_far s bytes) (marks_of s bytes)
-        (marks-front s bytes), (laws s).few bytes, few, short)) (omega (arith, short))
+    early-by s specs moments bytes (omega (
+      arith,
+      front-length (marks_so_far s bytes) (marks_of s bytes)
+          (marks-front s bytes),
+      (laws s).few bytes,
+      few,
+      short,
+    )) (omega (arith, short))
 
 pub chain-ends_early : (s : Spec) (specs : List Spec) (moments : ℕ → ℕ) (bytes : List ℕ) → length specs ≤ 10 →
     length bytes ≤ 2 ^ 40 → EndsEarly (links_from s specs) moments bytes

@@ -1,6 +1,6 @@
 -- The end of the input on its way through a row of hops.
-use Rattle.std.proofs.Common.{◌≡◌, ℕ, ◌+◌, ◌<◌, ◌≤◌, ◌^◌, Bool, true, false, Option, Some, None, List, [], ◌∷◌, ◌++◌,
-    length, map, refl, sym, ◌∙◌, ap, subst, append_assoc, arith, length-append}
+use Rattle.std.proofs.Common.{◌≡◌, ℕ, ◌+◌, ◌<◌, ◌≤◌, ◌^◌, Bool, true, false, Option, Some, None, List, [], ◌∷◌, ◌++◌}
+use Rattle.std.proofs.Common.{length, map, refl, sym, ◌∙◌, ap, subst, append_assoc, arith, length-append}
 use Rattle.std.proofs.lemmas.List.{append-nil}
 use Rattle.mb_message.specs.Signs.{ByteSign, suits_event, signs_of_event, IsRunOf}
 use Rattle.mb_message.specs.declared.event.Ev.{Ev}
@@ -18,8 +18,8 @@ use Rattle.mb_stream.specs.ReaderLaw.{answer, told_by}
 use Rattle.mb_message.specs.Front.{IsFront, IsPart}
 use Rattle.mb_outside.specs.TakingLaws.{part-within}
 use Rattle.mb_stream.specs.Reading.{told_signs}
-use Rattle.mb_carrier.specs.Carrier.{known, end_told, payload_of, puts_so_far, puts_of, last_byte_moment, end_moment,
-    live, written}
+use Rattle.mb_carrier.specs.Carrier.{known, end_told, payload_of, puts_so_far, puts_of, last_byte_moment, end_moment}
+use Rattle.mb_carrier.specs.Carrier.{live, written}
 use Rattle.mb_carrier.specs.Conversion.{moments_of}
 use Rattle.mb_carrier.specs.Hop.{HopStands, HaveMoment}
 use Rattle.mb_carrier.specs.Port.{reader_spec, ReaderStands, writer_spec, WriterStands, writer_in_sysex}
@@ -31,11 +31,12 @@ use Rattle.mb_carrier.proofs.GrowSpecs.{grows}
 use Rattle.mb_carrier.proofs.PortLemmas.{open-by}
 use Rattle.mb_carrier.proofs.ReadingLemmas.{told_signs-seen, puts-end, suited-all}
 use Rattle.mb_carrier.proofs.SpecLaws.{reads}
-use Rattle.mb_chain.specs.Row.{Link, link_of, hands_on, moments_on, writes_all, moments_all, live_over, through_over,
-    HaveOne, RowStands, RowDone, IsEarly, EndsEarly, RowFed, RowHalted, RowEnded, RowEndHalted, LastPut}
+use Rattle.mb_chain.specs.Row.{Link, link_of, hands_on, moments_on, writes_all, moments_all, live_over, through_over}
+use Rattle.mb_chain.specs.Row.{HaveOne, RowStands, RowDone, IsEarly, EndsEarly, RowFed, RowHalted, RowEnded}
+use Rattle.mb_chain.specs.Row.{RowEndHalted, LastPut}
 use Rattle.mb_chain.specs.declared.hop.Hop.{Hop}
-use Rattle.mb_chain.proofs.RowLemmas.{row-again, over-again, row-front, row-closes, early-front, early-short,
-    hop-closes}
+use Rattle.mb_chain.proofs.RowLemmas.{row-again, over-again, row-front, row-closes, early-front, early-short}
+use Rattle.mb_chain.proofs.RowLemmas.{hop-closes}
 use Rattle.mb_chain.proofs.FlowLemmas.{RowOf, MayFlow}
 
 -- what the end tells is no run
@@ -67,7 +68,7 @@ pub end-told : (s : Spec) (reader : List ℕ → List Known → Type 0) (now : �
     (told : List Told) → answer last ≡ told → at ≡ now moment →
     ((bytes : List ℕ) → reader bytes (known s bytes) → answer last ≡ end_told s bytes) →
     ((bytes : List ℕ) → reader bytes (known s bytes) → (moments : ℕ → ℕ) (moment_set : ℕ) →
-        last_byte_moment moments (length bytes) ≡ moment_set →
+    last_byte_moment moments (length bytes) ≡ moment_set →
     end_moment s moments bytes ≡ now moment_set) → EndTold s reader moment at told
 end-told s reader now moment at last told same is says times = record {
   told_is = λ bytes h. sym same ∙ says bytes h;
@@ -82,10 +83,10 @@ StandsAtEnd s reader writer moment = (moments : ℕ → ℕ) × (bytes : List �
 all-puts : (s : Spec) (reader : List ℕ → List Known → Type 0) (writer : List Put → Type 0) (moment at : ℕ) (e : Ev)
     (moments : ℕ → ℕ) (bytes : List ℕ) → EndTold s reader moment at (told_by (seen.Ev e)) →
     HopStands s moments reader writer bytes → last_byte_moment moments (length bytes) ≡ moment →
-        puts_of s moments bytes ≡ puts_so_far s moments bytes ++ puts_at at (signs_of_event e)
+    puts_of s moments bytes ≡ puts_so_far s moments bytes ++ puts_at at (signs_of_event e)
 all-puts s reader writer moment at e moments bytes told h last =
     puts-end s moments at bytes (told_by (seen.Ev e)) (told.told_is bytes h.reads)
-        (told.moment_is bytes h.reads moments last)
+    (told.moment_is bytes h.reads moments last)
     ∙ ap (λ ms. puts_so_far s moments bytes ++ puts_at at ms) (told_signs-seen (seen.Ev e))
 
 pub last-suits : (s : Spec) (reader : List ℕ → List Known → Type 0) (w : PortWriter) (moment at : ℕ) (e : Ev) →
@@ -96,12 +97,12 @@ last-suits s reader w moment at e told stands =
     let bytes : List ℕ = stands.1 in
     let puts : List Put = puts_so_far s moments bytes in
     let all : puts_of s moments bytes ≡ puts ++ puts_at at (signs_of_event e) = all-puts s reader
-        (WriterStands w) moment at e moments bytes told stands.2 stands.3 in
+    (WriterStands w) moment at e moments bytes told stands.2 stands.3 in
     let suits : suited (signs_in puts ++ signs_of_event e) ≡ true =
     ap suited (sym (signs_in-more puts at (signs_of_event e)))
-        ∙ (ap (λ ps. suited (signs_in ps)) (sym all) ∙ suited-all s moments (reads s) bytes) in
+    ∙ (ap (λ ps. suited (signs_in ps)) (sym all) ∙ suited-all s moments (reads s) bytes) in
     subst (λ (o : Bool). suits_event o e ≡ true) (sym (open-by w.carrier puts (stands.2).writes))
-        (apart (signs_in puts) e suits)
+    (apart (signs_in puts) e suits)
 
 pub last-short : (most : ℕ) (s : Spec) (reader : List ℕ → List Known → Type 0) (writer : List Put → Type 0)
     (moment at : ℕ) (e : Ev) → EndTold s reader moment at (told_by (seen.Ev e)) →
@@ -116,14 +117,14 @@ pub last-put : (s t : Spec) (reader : List ℕ → List Known → Type 0) (write
     EndTold s reader moment at (told_by (seen.Ev e)) → held ≡ [] →
     ((puts : List Put) → writer puts → writer_now (puts ++ puts_at at (signs_of_event e))) →
     ((puts : List Put) → writer puts → Appended held kept (live t puts) (live t (puts ++ puts_at at
-        (signs_of_event e)))) →
+    (signs_of_event e)))) →
     (moments : ℕ → ℕ) (bytes : List ℕ) → HopStands s moments reader writer bytes →
-        last_byte_moment moments (length bytes) ≡ moment →
-        LastPut s t reader writer writer_now moment at kept moments bytes
+    last_byte_moment moments (length bytes) ≡ moment →
+    LastPut s t reader writer writer_now moment at kept moments bytes
 last-put s t reader writer writer_now moment at e held kept told empty stands wrote = λ moments bytes h last.
     let puts : List Put = puts_so_far s moments bytes in
     let all : puts_of s moments bytes ≡ puts ++ puts_at at
-        (signs_of_event e) = all-puts s reader writer moment at e moments bytes told h last in
+    (signs_of_event e) = all-puts s reader writer moment at e moments bytes told h last in
     let a = wrote puts h.writes in
     record {
       moment_is = told.moment_is bytes h.reads moments last;
@@ -138,12 +139,12 @@ pub last-none : (s t : Spec) (reader : List ℕ → List Known → Type 0) (writ
     (told : List Told) (held : List ℕ) →
     EndTold s reader moment at told → held ≡ [] → told_signs told ≡ [] →
     (moments : ℕ → ℕ) (bytes : List ℕ) → HopStands s moments reader writer bytes →
-        last_byte_moment moments (length bytes) ≡ moment → LastPut s t reader writer writer moment at held moments bytes
+    last_byte_moment moments (length bytes) ≡ moment → LastPut s t reader writer writer moment at held moments bytes
 last-none s t reader writer moment at told held says empty no_marks = λ moments bytes h last.
     let puts : List Put = puts_so_far s moments bytes in
     let all : puts_of s moments bytes ≡ puts ++ [] =
     puts-end s moments at bytes told (says.told_is bytes h.reads) (says.moment_is bytes h.reads moments last)
-        ∙ ap (λ ms. puts ++ puts_at at ms) no_marks in
+    ∙ ap (λ ms. puts ++ puts_at at ms) no_marks in
     let same : puts_of s moments bytes ≡ puts = all ∙ append-nil puts in
     record {
       moment_is = says.moment_is bytes h.reads moments last;
@@ -164,10 +165,10 @@ pub record Closing (l : Link) (at : ℕ) (last rest : List ℕ) (moments : ℕ �
 abbrev pub PutsLast : Hop → (writer_now : List Put → Type 0) → (at : ℕ) → List ℕ → Type 0
 PutsLast h writer_now at last =
     (moments : ℕ → ℕ) (bytes : List ℕ) → HopStands (reader_spec h.reader) moments (ReaderStands h.reader)
-        (WriterStands h.writer) bytes →
+    (WriterStands h.writer) bytes →
     last_byte_moment moments (length bytes) ≡ h.last →
-        LastPut (reader_spec h.reader) (writer_spec h.writer) (ReaderStands h.reader)
-        (WriterStands h.writer) writer_now h.last at last moments bytes
+    LastPut (reader_spec h.reader) (writer_spec h.writer) (ReaderStands h.reader)
+    (WriterStands h.writer) writer_now h.last at last moments bytes
 
 last-at : (h : Hop) (hs : List Hop) (writer_now : List Put → Type 0) (at : ℕ) (last : List ℕ) →
     PutsLast h writer_now at last → (moments : ℕ → ℕ) (bytes : List ℕ) → RowOf h hs moments bytes →
@@ -177,13 +178,13 @@ last-at h hs writer_now at last put moments bytes row =
     let p = put moments bytes (row.0).stands (sym (row.0).last) in
     let puts : List Put = puts_so_far l.reads moments bytes in
     let all : puts_of l.reads moments bytes ≡ (puts ++ puts_at at (p.given).0) ++ [] = (p.given).1
-        ∙ sym (append-nil (puts ++ puts_at at (p.given).0)) in
+    ∙ sym (append-nil (puts ++ puts_at at (p.given).0)) in
     let suits : suited (signs_in ((puts ++ puts_at at (p.given).0) ++ []))
-        ≡ true = ap (λ ps. suited (signs_in ps)) (sym all) ∙ suited-all l.reads moments (reads l.reads) bytes in
+    ≡ true = ap (λ ps. suited (signs_in ps)) (sym all) ∙ suited-all l.reads moments (reads l.reads) bytes in
     subst (λ (ps : List Put). HaveMoment (moments_of l.writes (end_moment l.reads moments bytes) ps)
-        (length (hands_on l moments bytes)) (length last) at) (sym all)
+    (length (hands_on l moments bytes)) (length last) at) (sym all)
     (held-moment l.writes (grows l.writes) (end_moment l.reads moments bytes) puts at (p.given).0 []
-        (hands_on l moments bytes) last suits refl (ap (live l.writes) (sym (p.given).1) ∙ p.wrote))
+    (hands_on l moments bytes) last suits refl (ap (live l.writes) (sym (p.given).1) ∙ p.wrote))
 
 pub closing : (h : Hop) (hs : List Hop) (other : Spec) (writer_now : List Put → Type 0) (at : ℕ)
     (last held rest : List ℕ) → other ≡ writer_spec h.writer → PutsLast h writer_now at last →
@@ -200,10 +201,10 @@ closing h hs other writer_now at last held rest same put empty closes moments by
       last_at = last-at h hs writer_now at last put moments bytes row;
       rest_at =
           subst (λ (n : ℕ). HaveMoment (moments_all l moments bytes) (length (hands_on l moments bytes ++ last))
-              (length rest) n) p.moment_is
+          (length rest) n) p.moment_is
           (end-moment l.writes (grows l.writes) (end_moment l.reads moments bytes) puts
-              (length (hands_on l moments bytes ++ last)) (length rest)
-              (suited-all l.reads moments (reads l.reads) bytes)
+          (length (hands_on l moments bytes ++ last)) (length rest)
+          (suited-all l.reads moments (reads l.reads) bytes)
           (omega (arith, ap length p.wrote)));
     }
 
@@ -218,7 +219,7 @@ behind-all : (h : Hop) (hs : List Hop) (moments : ℕ → ℕ) (bytes : List ℕ
     RowStands hs (moments_all (link_of h) moments bytes) (hands_on (link_of h) moments bytes)
 behind-all h hs moments bytes row =
     row-again hs (moments_on (link_of h) moments bytes) (moments_all (link_of h) moments bytes)
-        (hands_on (link_of h) moments bytes) (hop-closes (link_of h) moments bytes).agree row.1
+    (hands_on (link_of h) moments bytes) (hop-closes (link_of h) moments bytes).agree row.1
 
 -- all that is written, in three
 all-written : (l : Link) (at : ℕ) (last rest : List ℕ) (moments : ℕ → ℕ) (bytes : List ℕ) →
@@ -233,7 +234,7 @@ put-front h hs writer_now at last moments bytes put row =
     let l : Link = link_of h in
     let p = put moments bytes (row.0).stands (sym (row.0).last) in
     let f = (grows l.writes).closes (puts_of l.reads moments bytes)
-        (suited-all l.reads moments (reads l.reads) bytes) in
+    (suited-all l.reads moments (reads l.reads) bytes) in
     (f.0, f.1 ∙ ap (λ xs. xs ++ f.0) p.wrote)
 
 -- something that a row was handed, and that may end
@@ -263,8 +264,14 @@ put-small links h hs writer_now at last put w =
     let l : Link = link_of h in
     let first : List ℕ = hands_on l w.0 w.1 in
     let f = put-front h hs writer_now at last w.0 w.1 put w.2 in
-    omega (arith, early-short links (moments_all l w.0 w.1) (writes_all l w.0 w.1) (w.3).0, ap length f.1,
-        length-append (first ++ last) f.0, length-append first last, ((w.2).0).wrote)
+    omega (
+      arith,
+      early-short links (moments_all l w.0 w.1) (writes_all l w.0 w.1) (w.3).0,
+      ap length f.1,
+      length-append (first ++ last) f.0,
+      length-append first last,
+      ((w.2).0).wrote,
+    )
 
 abbrev pub Closes : Hop → List Hop → (at : ℕ) (last rest : List ℕ) → Type 0
 Closes h hs at last rest = (moments : ℕ → ℕ) (bytes : List ℕ) → RowOf h hs moments bytes →
@@ -273,7 +280,7 @@ Closes h hs at last rest = (moments : ℕ → ℕ) (bytes : List ℕ) → RowOf 
 pub rest-may : (links : List Link) (h : Hop) (hs : List Hop) (behind : (ℕ → ℕ) → List ℕ → Type 0) (at : ℕ)
     (last rest : List ℕ) (took : List ℕ → Type 0) → Closes h hs at last rest →
     RowFed links (RowStands hs) behind at last took → MayEnd (link_of h ∷ links) (RowOf h hs) →
-        MayFlow links behind at rest
+    MayFlow links behind at rest
 rest-may links h hs behind at last rest took closes fed w =
     let l : Link = link_of h in
     let c = closes w.0 w.1 w.2 in
@@ -291,7 +298,7 @@ rest-may links h hs behind at last rest took closes fed w =
 stood : (links : List Link) (h : Hop) (hs : List Hop) (mid behind : (ℕ → ℕ) → List ℕ → Type 0) (at : ℕ)
     (last rest : List ℕ) (took took_second : List ℕ → Type 0) → Closes h hs at last rest →
     RowFed links (RowStands hs) mid at last took → RowFed links mid behind at rest took_second →
-        (moments : ℕ → ℕ) (bytes : List ℕ) → RowOf h hs moments bytes →
+    (moments : ℕ → ℕ) (bytes : List ℕ) → RowOf h hs moments bytes →
     behind (moments_all (link_of h) moments bytes) (writes_all (link_of h) moments bytes)
 stood links h hs mid behind at last rest took took_second closes a b moments bytes row =
     let l : Link = link_of h in
@@ -300,16 +307,19 @@ stood links h hs mid behind at last rest took took_second closes a b moments byt
     let then : ℕ → ℕ = moments_all l moments bytes in
     subst (behind then) (sym (all-written l at last rest moments bytes c))
     (b.stands then (first ++ last) (a.stands then first (behind-all h hs moments bytes row) (have-one links then
-        (length first) (length last) at c.last_at))
+    (length first) (length last) at c.last_at))
     (have-one links then (length (first ++ last)) (length rest) at c.rest_at))
 
 pub end-may : (links : List Link) (h : Hop) (hs : List Hop) (mid behind : (ℕ → ℕ) → List ℕ → Type 0) (at : ℕ)
     (last rest : List ℕ) (took took_second : List ℕ → Type 0) → Closes h hs at last rest →
     RowFed links (RowStands hs) mid at last took → RowFed links mid behind at rest took_second →
-        MayEnd (link_of h ∷ links) (RowOf h hs) → MayEnd links behind
-end-may links h hs mid behind at last rest took took_second closes a b w =
-    (moments_all (link_of h) w.0 w.1, writes_all (link_of h) w.0 w.1,
-        stood links h hs mid behind at last rest took took_second closes a b w.0 w.1 w.2, (w.3).1)
+    MayEnd (link_of h ∷ links) (RowOf h hs) → MayEnd links behind
+end-may links h hs mid behind at last rest took took_second closes a b w = (
+  moments_all (link_of h) w.0 w.1,
+  writes_all (link_of h) w.0 w.1,
+  stood links h hs mid behind at last rest took took_second closes a b w.0 w.1 w.2,
+  (w.3).1,
+)
 
 -- the numbers of bytes written stay small
 pub last-small : (links : List Link) (h : Hop) (hs : List Hop) (at : ℕ) (last rest : List ℕ) →
@@ -319,32 +329,38 @@ last-small links h hs at last rest closes w =
     let l : Link = link_of h in
     let first : List ℕ = hands_on l w.0 w.1 in
     let all = all-written l at last rest w.0 w.1 (closes w.0 w.1 w.2) in
-    omega (arith, early-short links (moments_all l w.0 w.1) (writes_all l w.0 w.1) (w.3).0, ap length all,
-        length-append (first ++ last) rest, length-append first last, ((w.2).0).wrote)
+    omega (
+      arith,
+      early-short links (moments_all l w.0 w.1) (writes_all l w.0 w.1) (w.3).0,
+      ap length all,
+      length-append (first ++ last) rest,
+      length-append first last,
+      ((w.2).0).wrote,
+    )
 
 -- what went out so far, of the hops behind
 went : (links : List Link) (h : Hop) (hs : List Hop) (mid : (ℕ → ℕ) → List ℕ → Type 0) (at : ℕ) (last rest : List ℕ)
     (took : List ℕ → Type 0) → Closes h hs at last rest →
     (a : RowFed links (RowStands hs) mid at last took) → (moments : ℕ → ℕ) (bytes : List ℕ) → RowOf h hs moments bytes →
     live_over links (moments_all (link_of h) moments bytes) (hands_on (link_of h) moments bytes ++ last)
-        ≡ live_over links (moments_on (link_of h) moments bytes) (hands_on (link_of h) moments bytes) ++ a.given
+    ≡ live_over links (moments_on (link_of h) moments bytes) (hands_on (link_of h) moments bytes) ++ a.given
 went links h hs mid at last rest took closes a moments bytes row =
     let l : Link = link_of h in
     let c = closes moments bytes row in
     let first : List ℕ = hands_on l moments bytes in
     let then : ℕ → ℕ = moments_all l moments bytes in
     a.beyond then first (behind-all h hs moments bytes row)
-        (have-one links then (length first) (length last) at c.last_at)
+    (have-one links then (length first) (length last) at c.last_at)
     ∙ ap (λ xs. xs ++ a.given) (sym (over-again links (moments_on l moments bytes) then first
-        (hop-closes l moments bytes).agree))
+    (hop-closes l moments bytes).agree))
 
 went-on : (links : List Link) (h : Hop) (hs : List Hop) (mid behind : (ℕ → ℕ) → List ℕ → Type 0) (at : ℕ)
     (last rest : List ℕ) (took took_second : List ℕ → Type 0) → Closes h hs at last rest →
     (a : RowFed links (RowStands hs) mid at last took) (b : RowFed links mid behind at rest took_second) →
-        (moments : ℕ → ℕ) (bytes : List ℕ) → RowOf h hs moments bytes →
+    (moments : ℕ → ℕ) (bytes : List ℕ) → RowOf h hs moments bytes →
     live_over links (moments_all (link_of h) moments bytes) (writes_all (link_of h) moments bytes)
     ≡ (live_over links (moments_on (link_of h) moments bytes) (hands_on (link_of h) moments bytes) ++ a.given)
-        ++ b.given
+    ++ b.given
 went-on links h hs mid behind at last rest took took_second closes a b moments bytes row =
     let l : Link = link_of h in
     let c = closes moments bytes row in
@@ -352,7 +368,7 @@ went-on links h hs mid behind at last rest took took_second closes a b moments b
     let then : ℕ → ℕ = moments_all l moments bytes in
     ap (live_over links then) (all-written l at last rest moments bytes c)
     ∙ (b.beyond then (first ++ last) (a.stands then first (behind-all h hs moments bytes row) (have-one links then
-        (length first) (length last) at c.last_at))
+    (length first) (length last) at c.last_at))
     (have-one links then (length (first ++ last)) (length rest) at c.rest_at)
     ∙ ap (λ xs. xs ++ b.given) (went links h hs mid at last rest took closes a moments bytes row))
 
@@ -364,9 +380,9 @@ pub end-ended : (links : List Link) (h h_now : Hop) (hs hs_now : List Hop) (mid 
     (at : ℕ) (last rest : List ℕ) (took_first took_second took_third took : List ℕ → Type 0) →
     ((x y z : List ℕ) → took_first x → took_second y → took_third z → took (x ++ (y ++ z))) →
     reader_spec h_now.reader ≡ reader_spec h.reader → writer_spec h_now.writer ≡ writer_spec h.writer →
-        h_now.wrote ≡ h.wrote + length last + length rest → Closes h hs at last rest →
+    h_now.wrote ≡ h.wrote + length last + length rest → Closes h hs at last rest →
     RowFed links (RowStands hs) mid at last took_first → RowFed links mid behind at rest took_second →
-        RowEnded links behind (RowDone hs_now) took_third →
+    RowEnded links behind (RowDone hs_now) took_third →
     RowEnded (link_of h ∷ links) (RowOf h hs) (RowDone (h_now ∷ hs_now)) took
 end-ended links h h_now hs hs_now mid behind at last rest took_first took_second took_third took all_took reads_same writes_same count closes a b e =
     let l : Link = link_of h in
@@ -378,18 +394,24 @@ end-ended links h h_now hs hs_now mid behind at last rest took_first took_second
           let first : List ℕ = hands_on l moments bytes in
           let all = all-written l at last rest moments bytes (closes moments bytes row) in
           let size : h_now.wrote ≡ length (writes_all l moments bytes) =
-          omega (arith, count, (row.0).wrote, ap length all, length-append (first ++ last) rest,
-              length-append first last) in
+          omega (
+            arith,
+            count,
+            (row.0).wrote,
+            ap length all,
+            length-append (first ++ last) rest,
+            length-append first last,
+          ) in
           let done : RowDone hs_now (moments_all l moments bytes) (writes_all l moments bytes) =
           e.counted (moments_all l moments bytes) (writes_all l moments bytes)
-              (stood links h hs mid behind at last rest took_first took_second closes a b moments bytes row) in
+          (stood links h hs mid behind at last rest took_first took_second closes a b moments bytes row) in
           subst (λ (k : Link). (h_now.wrote ≡ length (writes_all k moments bytes)) ×
-              RowDone hs_now (moments_all k moments bytes) (writes_all k moments bytes)) (sym same) (size, done);
+          RowDone hs_now (moments_all k moments bytes) (writes_all k moments bytes)) (sym same) (size, done);
       beyond = λ moments bytes row.
           e.beyond (moments_all l moments bytes) (writes_all l moments bytes)
-              (stood links h hs mid behind at last rest took_first took_second closes a b moments bytes row)
+          (stood links h hs mid behind at last rest took_first took_second closes a b moments bytes row)
           ∙ (ap (λ xs. xs ++ e.given)
-              (went-on links h hs mid behind at last rest took_first took_second closes a b moments bytes row)
+          (went-on links h hs mid behind at last rest took_first took_second closes a b moments bytes row)
           ∙ regroup (live_over links (moments_on l moments bytes) (hands_on l moments bytes)) a.given b.given e.given);
     }
 
@@ -408,19 +430,19 @@ end-halted_last links h hs writer_now at last took put halted =
           let then : ℕ → ℕ = moments_all l moments bytes in
           let whole : List ℕ = writes_all l moments bytes in
           let f = halted.front then first (behind-all h hs moments bytes row)
-              (have-one links then (length first) (length last) at
-              (last-at h hs writer_now at last put moments bytes row)) in
+          (have-one links then (length first) (length last) at
+          (last-at h hs writer_now at last put moments bytes row)) in
           subst (λ (xs : List ℕ). IsPart (xs ++ halted.given) (through_over links then whole))
-              (sym (over-again links (moments_on l moments bytes) then first (hop-closes l moments bytes).agree))
+          (sym (over-again links (moments_on l moments bytes) then first (hop-closes l moments bytes).agree))
           (part-within _ _ _ f (front-then _ _ _ (row-front links then (first ++ last) whole
-              (put-front h hs writer_now at last moments bytes put row)) (row-closes links then whole)));
+          (put-front h hs writer_now at last moments bytes put row)) (row-closes links then whole)));
     }
 
 pub end-halted_rest : (links : List Link) (h : Hop) (hs : List Hop) (mid : (ℕ → ℕ) → List ℕ → Type 0) (at : ℕ)
     (last rest : List ℕ) (took_first took_second took : List ℕ → Type 0) →
     ((x y : List ℕ) → took_first x → took_second y → took (x ++ y)) → Closes h hs at last rest →
     RowFed links (RowStands hs) mid at last took_first → RowHalted links mid at rest took_second →
-        RowEndHalted (link_of h ∷ links) (RowOf h hs) took
+    RowEndHalted (link_of h ∷ links) (RowOf h hs) took
 end-halted_rest links h hs mid at last rest took_first took_second took both closes a halted =
     record {
       given = a.given ++ halted.given;
@@ -432,12 +454,12 @@ end-halted_rest links h hs mid at last rest took_first took_second took both clo
           let then : ℕ → ℕ = moments_all l moments bytes in
           let whole : List ℕ = writes_all l moments bytes in
           let g = halted.front then (first ++ last)
-              (a.stands then first (behind-all h hs moments bytes row)
-              (have-one links then (length first) (length last) at c.last_at))
+          (a.stands then first (behind-all h hs moments bytes row)
+          (have-one links then (length first) (length last) at c.last_at))
           (have-one links then (length (first ++ last)) (length rest) at c.rest_at) in
           let f = part-within _ _ _ (subst (λ (xs : List ℕ). IsPart (live_over links then (first ++ last)
-              ++ halted.given) (live_over links then xs)) (sym (all-written l at last rest moments bytes c)) g)
-              (row-closes links then whole) in
+          ++ halted.given) (live_over links then xs)) (sym (all-written l at last rest moments bytes c)) g)
+          (row-closes links then whole) in
           subst (λ (xs : List ℕ). IsPart xs (through_over links then whole))
           (ap (λ xs. xs ++ halted.given) (went links h hs mid at last rest took_first closes a moments bytes row)
           ∙ append_assoc (live_over links (moments_on l moments bytes) first) a.given halted.given) f;
@@ -447,7 +469,7 @@ pub end-halted_behind : (links : List Link) (h : Hop) (hs : List Hop) (mid behin
     (at : ℕ) (last rest : List ℕ) (took_first took_second took_third took : List ℕ → Type 0) →
     ((x y z : List ℕ) → took_first x → took_second y → took_third z → took (x ++ (y ++ z))) → Closes h hs at last rest →
     RowFed links (RowStands hs) mid at last took_first → RowFed links mid behind at rest took_second →
-        RowEndHalted links behind took_third → RowEndHalted (link_of h ∷ links) (RowOf h hs) took
+    RowEndHalted links behind took_third → RowEndHalted (link_of h ∷ links) (RowOf h hs) took
 end-halted_behind links h hs mid behind at last rest took_first took_second took_third took all_took closes a b halted =
     record {
       given = a.given ++ (b.given ++ halted.given);
@@ -457,12 +479,12 @@ end-halted_behind links h hs mid behind at last rest took_first took_second took
           let then : ℕ → ℕ = moments_all l moments bytes in
           let whole : List ℕ = writes_all l moments bytes in
           let f = halted.front then whole
-              (stood links h hs mid behind at last rest took_first took_second closes a b moments bytes row) in
+          (stood links h hs mid behind at last rest took_first took_second closes a b moments bytes row) in
           subst (λ (xs : List ℕ). IsPart xs (through_over links then whole))
           (ap (λ xs. xs ++ halted.given)
-              (went-on links h hs mid behind at last rest took_first took_second closes a b moments bytes row)
+          (went-on links h hs mid behind at last rest took_first took_second closes a b moments bytes row)
           ∙ regroup (live_over links (moments_on l moments bytes)
-              (hands_on l moments bytes)) a.given b.given halted.given) f;
+          (hands_on l moments bytes)) a.given b.given halted.given) f;
     }
 
 -- a row by its first hop
@@ -474,13 +496,13 @@ first-end hops h behind same w = subst (λ (hs : List Hop). MayEnd (map link_of 
 pub first-ended : (hops : List Hop) (h : Hop) (behind : List Hop) (done : (ℕ → ℕ) → List ℕ → Type 0)
     (took : List ℕ → Type 0) → hops ≡ h ∷ behind →
     RowEnded (link_of h ∷ map link_of behind) (RowOf h behind) done took →
-        RowEnded (map link_of hops) (RowStands hops) done took
+    RowEnded (map link_of hops) (RowStands hops) done took
 first-ended hops h behind done took same f = subst
     (λ (hs : List Hop). RowEnded (map link_of hs) (RowStands hs) done took) (sym same) f
 
 pub first-end_halted : (hops : List Hop) (h : Hop) (behind : List Hop) (took : List ℕ → Type 0) → hops ≡ h ∷ behind →
     RowEndHalted (link_of h ∷ map link_of behind) (RowOf h behind) took →
-        RowEndHalted (map link_of hops) (RowStands hops) took
+    RowEndHalted (map link_of hops) (RowStands hops) took
 first-end_halted hops h behind took same f = subst
     (λ (hs : List Hop). RowEndHalted (map link_of hs) (RowStands hs) took) (sym same) f
 

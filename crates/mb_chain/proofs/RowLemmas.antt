@@ -1,6 +1,6 @@
 -- Rows of hops: what was written stays, and the moments that a row has looked at.
-use Rattle.std.proofs.Common.{◌≡◌, ℕ, zero, suc, ◌+◌, ◌<◌, ◌≤◌, ◌^◌, true, List, [], ◌∷◌, ◌++◌, length, refl, sym,
-    ◌∙◌, ap, subst, arith, length-append}
+use Rattle.std.proofs.Common.{◌≡◌, ℕ, zero, suc, ◌+◌, ◌<◌, ◌≤◌, ◌^◌, true, List, [], ◌∷◌, ◌++◌, length, refl, sym, ◌∙◌}
+use Rattle.std.proofs.Common.{ap, subst, arith, length-append}
 use Rattle.std.proofs.lemmas.List.{append-nil}
 use Rattle.mb_stream.specs.Puts.{Put, signs_in}
 use Rattle.mb_stream.specs.Standing.{suited}
@@ -16,26 +16,26 @@ use Rattle.mb_carrier.proofs.GrowLemmas.{moments-same, known-front}
 use Rattle.mb_carrier.proofs.GrowSpecs.{grows}
 use Rattle.mb_carrier.proofs.ReadingLemmas.{suited-so_far, suited-all}
 use Rattle.mb_carrier.proofs.SpecLaws.{reads}
-use Rattle.mb_chain.specs.Row.{Link, link_of, links_from, hands_on, moments_on, writes_all, moments_all, live_over,
-    through_over, HopAt, RowStands, IsEarly, last_after}
+use Rattle.mb_chain.specs.Row.{Link, link_of, links_from, hands_on, moments_on, writes_all, moments_all, live_over}
+use Rattle.mb_chain.specs.Row.{through_over, HopAt, RowStands, IsEarly, last_after}
 use Rattle.mb_chain.specs.declared.hop.Hop.{Hop}
 
 -- a chain's hops do what its definition says
 
 pub live-chain : (first : Spec) (between : List Spec) (last : Spec) (m : ℕ → ℕ) (bytes : List ℕ) →
     live_over (links_from first (between ++ last ∷ [])) m bytes
-        ≡ live last (carried_so_far between (puts_so_far first m bytes))
+    ≡ live last (carried_so_far between (puts_so_far first m bytes))
 live-chain first [] last m bytes = refl
 live-chain first (s ∷ between) last m bytes = live-chain s between last (moments_of s 0 (puts_so_far first m bytes))
     (live s (puts_so_far first m bytes))
 
 pub through-chain : (first : Spec) (between : List Spec) (last : Spec) (m : ℕ → ℕ) (bytes : List ℕ) →
     through_over (links_from first (between ++ last ∷ [])) m bytes
-        ≡ written last (carried between (end_moment first m bytes) (puts_of first m bytes))
+    ≡ written last (carried between (end_moment first m bytes) (puts_of first m bytes))
 through-chain first [] last m bytes = refl
 through-chain first (s ∷ between) last m bytes =
     through-chain s between last (moments_of s (end_moment first m bytes) (puts_of first m bytes))
-        (written s (puts_of first m bytes))
+    (written s (puts_of first m bytes))
 
 -- The same moments below the number of bytes: the same row.
 
@@ -54,12 +54,15 @@ pub row-again : (hops : List Hop) (m n : ℕ → ℕ) (bytes : List ℕ) → Agr
 row-again [] m n bytes agree row = tt
 row-again (h ∷ hs) m n bytes agree row =
     let same : puts_so_far (reader_spec h.reader) m bytes
-        ≡ puts_so_far (reader_spec h.reader) n bytes = puts-agree (reader_spec h.reader) m n bytes agree in (
+    ≡ puts_so_far (reader_spec h.reader) n bytes = puts-agree (reader_spec h.reader) m n bytes agree in (
       record {
         offset = (row.0).offset;
         last = (row.0).last ∙ last-agree m n (length bytes) agree;
-        stands = record { reads = ((row.0).stands).reads; writes = subst (WriterStands h.writer) same
-            ((row.0).stands).writes };
+        stands = record {
+          reads = ((row.0).stands).reads;
+          writes = subst (WriterStands h.writer) same
+              ((row.0).stands).writes;
+        };
         wrote = (row.0).wrote ∙ ap (λ ps. length (live (writer_spec h.writer) ps)) same;
       },
       subst (λ (ps : List Put). RowStands hs (moments_of (writer_spec h.writer) 0 ps)
@@ -93,7 +96,7 @@ hop-more l m xs ys f =
     let more = known-front l.reads (grows l.reads) m xs ys f in
     let p : List Put = puts_so_far l.reads m xs in
     let suits : suited (signs_in (p ++ more.0)) ≡ true = ap (λ ps. suited (signs_in ps)) (sym more.1)
-        ∙ suited-so_far l.reads m (reads l.reads) ys in
+    ∙ suited-so_far l.reads m (reads l.reads) ys in
     let g = (grows l.writes).stays p more.0 suits in
     record {
       front = (g.0, ap (live l.writes) more.1 ∙ g.1);
@@ -166,7 +169,7 @@ first-agree l m before piece = (hop-more l m before (before ++ piece) (piece, re
 pub last-more : (m : ℕ → ℕ) (before piece : List ℕ) (moment last : ℕ) →
     HaveMoment m (length before) (length piece) moment →
     last ≡ last_byte_moment m (length before) →
-        last_after last moment piece ≡ last_byte_moment m (length (before ++ piece))
+    last_after last moment piece ≡ last_byte_moment m (length (before ++ piece))
 last-more m before [] moment last have is = is
     ∙ ap (λ bytes. last_byte_moment m (length bytes)) (sym (append-nil before))
 last-more m before (b ∷ bs) moment last have is =

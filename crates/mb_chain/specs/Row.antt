@@ -83,7 +83,7 @@ abbrev pub RowDone : List Hop → (moments : ℕ → ℕ) → List ℕ → Type 
 RowDone [] moments bytes = Unit {0}
 RowDone (h ∷ hs) moments bytes =
     (h.wrote ≡ length (writes_all (link_of h) moments bytes)) ×
-        RowDone hs (moments_all (link_of h) moments bytes) (writes_all (link_of h) moments bytes)
+    RowDone hs (moments_all (link_of h) moments bytes) (writes_all (link_of h) moments bytes)
 
 abbrev pub IsEarly : List Link → (moments : ℕ → ℕ) → List ℕ → Type 0
 IsEarly [] moments bytes = length bytes ≤ 2 ^ 51 + 2 ^ 14
@@ -94,7 +94,7 @@ abbrev pub EndsEarly : List Link → (moments : ℕ → ℕ) → List ℕ → Ty
 EndsEarly [] moments bytes = Unit {0}
 EndsEarly (l ∷ ls) moments bytes =
     IsEarly ls (moments_all l moments bytes) (writes_all l moments bytes) ×
-        EndsEarly ls (moments_all l moments bytes) (writes_all l moments bytes)
+    EndsEarly ls (moments_all l moments bytes) (writes_all l moments bytes)
 
 -- the moment of the last byte, bytes of one moment being behind others
 abbrev pub last_after : (last moment : ℕ) → List ℕ → ℕ

@@ -1,15 +1,15 @@
 //! A chain: two to ten specs.
 
-ghost use Rattle.std.specs.Prelude.{◌≡◌, ℕ, ◌+◌, ◌^◌, ◌<◌, ◌≤◌, true, false, not, List, [], ◌∷◌, ◌++◌, length, IfOk,
-    IfErr, OnOk, OnErr};
+ghost use Rattle.std.specs.Prelude.{◌≡◌, ℕ, ◌+◌, ◌^◌, ◌<◌, ◌≤◌, true, false, not, List, [], ◌∷◌, ◌++◌, length, IfOk};
+ghost use Rattle.std.specs.Prelude.{IfErr, OnOk, OnErr};
 ghost use Rattle.arrayvec.specs.ArrayVec.{array_vec_len};
 ghost use Rattle.mb_outside.specs.Cause.{HasCause};
 ghost use Rattle.mb_carrier.specs.Carrier.{whole};
 ghost use Rattle.mb_carrier.specs.declared.spec.Spec.{Spec};
 ghost use Rattle.mb_carrier.specs.Word.{AreSpecs};
 ghost use Rattle.mb_chain.specs.Row.{Link};
-ghost use Rattle.mb_chain.specs.Chain.{links_of, chain_links, is_broken, ChainStands, ChainEnded, ChainFed,
-    ChainHalted, ChainFinished, ChainEndHalted, crossing, crossing_all, IsFaulty};
+ghost use Rattle.mb_chain.specs.Chain.{links_of, chain_links, is_broken, ChainStands, ChainEnded, ChainFed};
+ghost use Rattle.mb_chain.specs.Chain.{ChainHalted, ChainFinished, ChainEndHalted, crossing, crossing_all, IsFaulty};
 
 use crate::end::end;
 use crate::flow::flow;

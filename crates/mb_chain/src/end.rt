@@ -51,13 +51,13 @@ fn put_last(reader: &mut PortReader, writer: &mut PortWriter, moment: u64, held:
     requires empty { held.old.items ≡ [] }
     requires stands { (moments : ℕ → ℕ) × (bytes : List ℕ) ×
         HopStands (reader_spec reader.old) moments (ReaderStands reader.old) (WriterStands writer.old) bytes ×
-            (last_byte_moment moments (length bytes) ≡ moment) }
+        (last_byte_moment moments (length bytes) ≡ moment) }
     ensures reads { reader_spec reader.new ≡ reader_spec reader.old }
     ensures writes { writer_spec writer.new ≡ writer_spec writer.old }
     ensures put { (moments : ℕ → ℕ) (bytes : List ℕ) →
         HopStands (reader_spec reader.old) moments (ReaderStands reader.old) (WriterStands writer.old) bytes →
         last_byte_moment moments (length bytes) ≡ moment →
-            LastPut (reader_spec reader.old) (writer_spec writer.old) (ReaderStands reader.old)
+        LastPut (reader_spec reader.old) (writer_spec writer.old) (ReaderStands reader.old)
         (WriterStands writer.old) (WriterStands writer.new) moment result held.new.items moments bytes }
 {
     match EventReader::finish(reader) {

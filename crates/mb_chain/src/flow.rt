@@ -11,11 +11,16 @@ use mb_outside::{Out, Refused};
 
 /// Hands bytes of one moment to the first hop, and what the last one writes of them to the taker. With no hop they are
 /// handed to the taker. A buffer between two hops holds bytes of one moment.
-pub(crate) fn flow<K: Out>(hops: &mut [Hop], moment: u64, bytes: &[u8], out: &mut K) -> Result<(), Refused>
+pub(crate) fn flow<K: Out>(
+    hops: &mut [Hop],
+    moment: u64,
+    bytes: &[u8],
+    out: &mut K,
+) -> Result<(), Refused>
     requires ready { K.ready out.old }
     requires stands { (moments : ℕ → ℕ) × (before : List ℕ) × RowStands hops.old moments before ×
         IsEarly (map link_of hops.old) moments (before ++ bytes.now) ×
-            HaveOne (map link_of hops.old) moments (length before) (length bytes.now) moment }
+        HaveOne (map link_of hops.old) moments (length before) (length bytes.now) moment }
     ensures links { map link_of hops.new ≡ map link_of hops.old }
     ensures ready { K.ready out.new }
     ensures cause { HasCause (K.refusals out.old) (K.refusals out.new) result }

@@ -5,8 +5,8 @@
 --   after_read handle n c         the first n bytes of a handle were taken
 --   after_write handle bytes c    these bytes were written to a handle
 --   Reads, Writes                 what a call did, by its answer
-use Rattle.std.specs.Prelude.{◌≡◌, ℕ, ◌<◌, ◌≤◌, Bool, ◌||◌, ◌==◌, if◌then◌else◌, List, [], ◌++◌, length, take, drop,
-    Result, MatchResult}
+use Rattle.std.specs.Prelude.{◌≡◌, ℕ, ◌<◌, ◌≤◌, Bool, ◌||◌, ◌==◌, if◌then◌else◌, List, [], ◌++◌, length, take, drop}
+use Rattle.std.specs.Prelude.{Result, MatchResult}
 
 pub record Contents : Type 0 where
   pub left : ℕ → List ℕ

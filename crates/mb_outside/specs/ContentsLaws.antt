@@ -26,18 +26,18 @@ with_entry-here entries handle bytes = grind (arith, nat_tests)
 pub after_write-none : (handle : ℕ) (c : Contents) → after_write handle [] c ≡ c
 after_write-none handle c =
     same_contents (after_write handle [] c) c (λ h. refl) (λ h. refl)
-        (λ h. with_entry-same c.written handle _ h (append-nil (c.written handle)))
+    (λ h. with_entry-same c.written handle _ h (append-nil (c.written handle)))
 
 pub after_write-twice : (handle : ℕ) (x y : List ℕ) (c : Contents) →
     after_write handle y (after_write handle x c) ≡ after_write handle (x ++ y) c
 after_write-twice handle x y c =
     same_contents (after_write handle y (after_write handle x c)) (after_write handle (x ++ y) c) (λ h. refl)
-        (λ h. refl)
+    (λ h. refl)
     (λ h.
     with_entry-twice c.written handle (c.written handle ++ x) _ h
     ∙ ap (λ bytes. with_entry c.written handle bytes h)
-        (ap (λ before. before ++ y) (with_entry-here c.written handle (c.written handle ++ x))
-        ∙ append_assoc (c.written handle) x y))
+    (ap (λ before. before ++ y) (with_entry-here c.written handle (c.written handle ++ x))
+    ∙ append_assoc (c.written handle) x y))
 
 -- what was taken in two steps
 taken_twice : (m n : ℕ) (taken left all rest : List ℕ) → all ≡ taken ++ take n left → rest ≡ drop n left →
@@ -61,11 +61,11 @@ after_read-twice handle m n c =
     (λ h.
     with_entry-twice c.left handle (drop n (c.left handle)) _ h
     ∙ ap (λ bytes. with_entry c.left handle bytes h)
-        (ap (drop m) (with_entry-here c.left handle (drop n (c.left handle))) ∙ drop-drop m n (c.left handle)))
+    (ap (drop m) (with_entry-here c.left handle (drop n (c.left handle))) ∙ drop-drop m n (c.left handle)))
     (λ h.
     with_entry-twice c.taken handle (c.taken handle ++ take n (c.left handle)) _ h
     ∙ ap (λ bytes. with_entry c.taken handle bytes h)
-        (taken_twice m n (c.taken handle) (c.left handle) _ _
-        (with_entry-here c.taken handle (c.taken handle ++ take n (c.left handle)))
-        (with_entry-here c.left handle (drop n (c.left handle)))))
+    (taken_twice m n (c.taken handle) (c.left handle) _ _
+    (with_entry-here c.taken handle (c.taken handle ++ take n (c.left handle)))
+    (with_entry-here c.left handle (drop n (c.left handle)))))
     (λ h. refl)

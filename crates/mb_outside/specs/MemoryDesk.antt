@@ -5,8 +5,8 @@
 --   contents_of m            its contents, as every desk tells them
 --   IsCalled before after    one more call was counted; what is planned, the size of a piece and the room stay
 --   is_planned, is_full      whether the next call is to fail; whether there is no room for one more byte
-use Rattle.std.specs.Prelude.{◌≡◌, ℕ, ◌+◌, ◌-◌, ◌^◌, Bool, ◌==◌, if◌then◌else◌, min, List, [], ◌∷◌, length, map, take,
-    drop}
+use Rattle.std.specs.Prelude.{◌≡◌, ℕ, ◌+◌, ◌-◌, ◌^◌, Bool, ◌==◌, if◌then◌else◌, min, List, [], ◌∷◌, length, map, take}
+use Rattle.std.specs.Prelude.{drop}
 use Rattle.std.specs.List.{list_any}
 use Rattle.mb_outside.specs.Contents.{Contents}
 

@@ -1,6 +1,6 @@
 -- What was taken in two steps was taken; and parts of lists.
-use Rattle.std.proofs.Common.{◌≡◌, ℕ, ◌<◌, Bool, List, [], ◌∷◌, ◌++◌, length, IsTrue, refl, sym, ◌∙◌, ap,
-    append_assoc, take, drop, arith, length-append}
+use Rattle.std.proofs.Common.{◌≡◌, ℕ, ◌<◌, Bool, List, [], ◌∷◌, ◌++◌, length, IsTrue, refl, sym, ◌∙◌, ap, append_assoc}
+use Rattle.std.proofs.Common.{take, drop, arith, length-append}
 use Rattle.std.proofs.lemmas.List.{take-append-drop}
 use Rattle.mb_outside.specs.Contents.{Contents, after_write}
 use Rattle.mb_outside.specs.ContentsLaws.{after_write-none, after_write-twice}
@@ -44,8 +44,12 @@ pub part-front : {A : Type 0} (xs ys : List A) → IsPart xs ys → IsFront xs y
 part-front xs ys p = (p.0, p.1)
 
 pub part-within : {A : Type 0} (xs ys zs : List A) → IsPart xs ys → IsFront ys zs → IsPart xs zs
-part-within xs ys zs p f = (p.0 ++ f.0, f.1
-    ∙ (ap (λ us. us ++ f.0) p.1 ∙ append_assoc xs p.0 f.0), omega (arith, length-append p.0 f.0, p.2))
+part-within xs ys zs p f = (
+  p.0 ++ f.0,
+  f.1
+      ∙ (ap (λ us. us ++ f.0) p.1 ∙ append_assoc xs p.0 f.0),
+  omega (arith, length-append p.0 f.0, p.2),
+)
 
 pub part-behind : {A : Type 0} (start xs ys : List A) → IsPart xs ys → IsPart (start ++ xs) (start ++ ys)
 part-behind start xs ys p = (p.0, ap (λ us. start ++ us) p.1 ∙ sym (append_assoc start xs p.0), p.2)

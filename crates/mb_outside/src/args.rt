@@ -1,7 +1,7 @@
 //! The words of a command line.
 
-ghost use Rattle.std.specs.Prelude.{◌≡◌, ℕ, ◌<◌, List, [], ◌∷◌, ◌++◌, map, length, string_bytes, OnOk, OnErr,
-    slice_get};
+ghost use Rattle.std.specs.Prelude.{◌≡◌, ℕ, ◌<◌, List, [], ◌∷◌, ◌++◌, map, length, string_bytes, OnOk, OnErr};
+ghost use Rattle.std.specs.Prelude.{slice_get};
 
 use mb_message::Memory;
 use std::alloc::Global;

@@ -40,9 +40,12 @@ impl<D: Desk> Out for DeskOut<'_, D> {
 
     ghost nothing = { λ out. (refl, refl, Wrote-nothing D.tells D.contents D.read_faults out.handle out.desk.now) };
 
-    ghost both = { λ a b c x y ab bc. (bc.0 ∙ ab.0, bc.1 ∙ ab.1,
-        Wrote-both D.tells D.contents D.read_faults a.handle a.desk.now b.desk.now c.desk.now x y ab.2
-        (subst (λ (h : ℕ). Wrote D.tells D.contents D.read_faults h b.desk.now y c.desk.now) ab.0 bc.2)) };
+    ghost both = { λ a b c x y ab bc. (
+      bc.0 ∙ ab.0,
+      bc.1 ∙ ab.1,
+      Wrote-both D.tells D.contents D.read_faults a.handle a.desk.now b.desk.now c.desk.now x y ab.2
+          (subst (λ (h : ℕ). Wrote D.tells D.contents D.read_faults h b.desk.now y c.desk.now) ab.0 bc.2),
+    ) };
 
     fn take(&mut self, piece: &[u8]) -> Result<(), Refused> {
         write_all(self.desk, self.handle, piece)

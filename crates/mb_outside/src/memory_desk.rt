@@ -1,11 +1,11 @@
 //! A desk in memory, which tells all that it holds and fails exactly where it is told to.
 
-ghost use Rattle.std.specs.Prelude.{◌≡◌, ℕ, ◌+◌, ◌-◌, ◌^◌, ◌<◌, ◌≤◌, ◌↔◌, Bool, true, not, ◌||◌, List, [], ◌∷◌, ◌++◌,
-    length, take, vec_len, vec_capacity, IsTrue, is_ok, MatchOption, IfOk, OnOk, OnErr};
+ghost use Rattle.std.specs.Prelude.{◌≡◌, ℕ, ◌+◌, ◌-◌, ◌^◌, ◌<◌, ◌≤◌, ◌↔◌, Bool, true, not, ◌||◌, List, [], ◌∷◌, ◌++◌};
+ghost use Rattle.std.specs.Prelude.{length, take, vec_len, vec_capacity, IsTrue, is_ok, MatchOption, IfOk, OnOk, OnErr};
 ghost use Rattle.mb_outside.specs.Cause.{HasCause};
 ghost use Rattle.mb_outside.specs.Contents.{Contents, is_readable, is_writable, Reads, Writes, TakesSome};
-ghost use Rattle.mb_outside.specs.MemoryDesk.{MemoryState, contents_of, is_planned, is_full, count_of_read,
-    count_of_write, one_more, bytes_to, logged, IsCalled};
+ghost use Rattle.mb_outside.specs.MemoryDesk.{MemoryState, contents_of, is_planned, is_full, count_of_read};
+ghost use Rattle.mb_outside.specs.MemoryDesk.{count_of_write, one_more, bytes_to, logged, IsCalled};
 
 use crate::{Desk, Failed};
 use mb_message::Memory;

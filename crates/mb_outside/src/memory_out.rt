@@ -1,7 +1,7 @@
 //! A taker of bytes in memory, which refuses where its room is passed.
 
-ghost use Rattle.std.specs.Prelude.{◌≡◌, ℕ, ◌+◌, ◌≤◌, ◌↔◌, List, [], ◌++◌, length, vec_len, vec_capacity, IsOk, IfOk,
-    OnOk, OnErr};
+ghost use Rattle.std.specs.Prelude.{◌≡◌, ℕ, ◌+◌, ◌≤◌, ◌↔◌, List, [], ◌++◌, length, vec_len, vec_capacity, IsOk, IfOk};
+ghost use Rattle.std.specs.Prelude.{OnOk, OnErr};
 ghost use Rattle.mb_outside.specs.Cause.{HasCause};
 ghost use Rattle.mb_outside.specs.Taking.{TookFront};
 ghost use Rattle.mb_outside.specs.MemoryOut.{TakenState, Took};

@@ -1,6 +1,7 @@
 -- From what a command did to what the caller sees.
-use Rattle.std.proofs.Common.{◌≡◌, Bool, IsTrue, ℕ, ◌+◌, ◌<◌, ◌≤◌, ◌↔◌, ◌==◌, ◌||◌, if◌then◌else◌, true, false, List,
-    [], ◌++◌, length, take, drop, refl, sym, ◌∙◌, ap, subst, inl, inr, ◌⊎◌, arith, length-append}
+use Rattle.std.proofs.Common.{◌≡◌, Bool, IsTrue, ℕ, ◌+◌, ◌<◌, ◌≤◌, ◌↔◌, ◌==◌, ◌||◌, if◌then◌else◌, true, false, List}
+use Rattle.std.proofs.Common.{[], ◌++◌, length, take, drop, refl, sym, ◌∙◌, ap, subst, inl, inr, ◌⊎◌, arith}
+use Rattle.std.proofs.Common.{length-append}
 use Rattle.std.specs.Prelude.{Result, Ok, Err, OnOk, OnErr}
 use Rattle.std.proofs.lemmas.Bool.Decides.{nat_tests}
 use Rattle.std.proofs.lemmas.List.{append-nil, take_at, drop_at}
@@ -15,8 +16,8 @@ use Rattle.mb_carrier.specs.declared.spec.Spec.{Spec}
 use Rattle.mb_words.specs.Command.{Command, Converting, Listing, Means}
 use Rattle.mb_words.proofs.CommandLemmas.{one_command}
 use Rattle.mb_top.specs.Output.{ReadsOne, reads_from, writes_to, may_want_memory, answers_notes, is_whole}
-use Rattle.mb_top.specs.Answer.{Answered, WentThrough, Moved, EndsAs, Says, faults_told, taken_off, added_to, code_of,
-    text_of, read_all}
+use Rattle.mb_top.specs.Answer.{Answered, WentThrough, Moved, EndsAs, Says, faults_told, taken_off, added_to, code_of}
+use Rattle.mb_top.specs.Answer.{text_of, read_all}
 use Rattle.mb_top.specs.Ran.{Ran, RanWords, MayAnswer, MayAnswerWords, Faulted, written_of}
 use Rattle.mb_top.specs.declared.status.Status.{Status}
 use Rattle.mb_top.specs.declared.status.Status.TheVariants.{Done, Noted, Usage, Cut, NoMemory, Stopped}
@@ -31,19 +32,22 @@ pub said : {T E S : Type 0} (r : Result T E) (tells : Bool) (contents : S → Co
     (before after : S) (text : List ℕ) (rose same : Type 0) →
     OnOk r (Wrote tells contents read_faults 2 before text after) →
     OnErr r ((front : List ℕ) × IsPart front text × Wrote tells contents read_faults 2 before front after) →
-        OnErr r rose → OnOk r same → IsTrue tells →
+    OnErr r rose → OnOk r same → IsTrue tells →
     (words : List ℕ) × (contents after ≡ after_write 2 words (contents before)) × Says rose words text ×
-        (words ≡ text → same)
+    (words ≡ text → same)
 said (Ok x) tells contents read_faults before after text rose same ok err cause sound t =
     (text, ok.contents_are t, record { front = ([], sym (append-nil text)); all = inl refl }, λ whole. sound)
-said (Err x) tells contents read_faults before after text rose same ok err cause sound t =
-    (err.0, (err.2).contents_are t, record { front = part-front err.0 text err.1; all = inr cause },
-        λ whole. absurd (part-differs err.0 text err.1 whole))
+said (Err x) tells contents read_faults before after text rose same ok err cause sound t = (
+  err.0,
+  (err.2).contents_are t,
+  record { front = part-front err.0 text err.1; all = inr cause },
+  λ whole. absurd (part-differs err.0 text err.1 whole),
+)
 
 -- of an empty text nothing is written
 pub none_said : (contents : Contents) (text : List ℕ) (rose : Type 0) (faults : ℕ) → text ≡ [] →
     (words : List ℕ) × (contents ≡ after_write 2 words contents) × Says rose words text ×
-        (words ≡ text → faults ≡ faults)
+    (words ≡ text → faults ≡ faults)
 none_said contents text rose faults none =
     ([], sym (after_write-none 2 contents), record { front = (text, refl); all = inl (sym none) }, λ whole. refl)
 
@@ -55,7 +59,7 @@ wrong e = cc
 abbrev status_at : ℕ → Status
 status_at n =
     if n == 0 then Done else (if n == 1 then Noted else (if n == 2 then Usage else
-        (if n == 3 then Stopped ReadFault else (if n == 4 then Stopped Refused else
+    (if n == 3 then Stopped ReadFault else (if n == 4 then Stopped Refused else
     (if n == 5 then Cut else (if n == 8 then Stopped TooLong else NoMemory))))))
 
 again : (s : Status) → status_at (code_of s) ≡ s
@@ -117,15 +121,15 @@ taken-at input output words before handle f = by_test (handle == 0) refl
         taken_off handle before (written_of input output words before) ≡ seen_at input handle
     by_test true e =
         ap (λ (xs : List ℕ). drop (length (before.taken handle)) xs)
-            (with_entry-at before.taken 0 (before.taken 0 ++ take (length input) (before.left 0)) handle e)
+        (with_entry-at before.taken 0 (before.taken 0 ++ take (length input) (before.left 0)) handle e)
         ∙ (ap (λ (n : ℕ). drop (length (before.taken n)) (before.taken 0 ++ take (length input) (before.left 0)))
-            (handle-is handle 0 e)
+        (handle-is handle 0 e)
         ∙ (drop_at (before.taken 0) (take (length input) (before.left 0)) (length (before.taken 0)) refl
         ∙ (ap (take (length input)) f.1 ∙ (take_at input f.0 (length input) refl ∙ sym (ap (λ
-            (t : Bool). if t then input else []) e)))))
+        (t : Bool). if t then input else []) e)))))
     by_test false e =
         ap (λ (xs : List ℕ). drop (length (before.taken handle)) xs)
-            (with_entry-other before.taken 0 (before.taken 0 ++ take (length input) (before.left 0)) handle e)
+        (with_entry-other before.taken 0 (before.taken 0 ++ take (length input) (before.left 0)) handle e)
         ∙ (behind_all (before.taken handle) ∙ sym (ap (λ (t : Bool). if t then input else []) e))
 
 added-at : (input output words : List ℕ) (before : Contents) (handle : ℕ) →
@@ -136,26 +140,26 @@ added-at input output words before handle = by_tests (handle == 2) (handle == 1)
         added_to handle before (written_of input output words before) ≡ written_at output words handle
     by_tests true u e f =
         ap (λ (xs : List ℕ). drop (length (before.written handle)) xs)
-            (with_entry-at (with_entry before.written 1 (before.written 1 ++ output)) 2
-            (before.written 2 ++ words) handle e)
+        (with_entry-at (with_entry before.written 1 (before.written 1 ++ output)) 2
+        (before.written 2 ++ words) handle e)
         ∙ (ap (λ (n : ℕ). drop (length (before.written n)) (before.written 2 ++ words)) (handle-is handle 2 e)
         ∙ (drop_at (before.written 2) words (length (before.written 2)) refl
-            ∙ sym (ap (λ (t : Bool). if t then words else (if handle == 1 then output else [])) e)))
+        ∙ sym (ap (λ (t : Bool). if t then words else (if handle == 1 then output else [])) e)))
     by_tests false true e f =
         ap (λ (xs : List ℕ). drop (length (before.written handle)) xs)
         (with_entry-other (with_entry before.written 1 (before.written 1 ++ output)) 2
-            (before.written 2 ++ words) handle e ∙ with_entry-at before.written 1 (before.written 1 ++ output) handle f)
+        (before.written 2 ++ words) handle e ∙ with_entry-at before.written 1 (before.written 1 ++ output) handle f)
         ∙ (ap (λ (n : ℕ). drop (length (before.written n)) (before.written 1 ++ output)) (handle-is handle 1 f)
         ∙ (drop_at (before.written 1) output (length (before.written 1)) refl
         ∙ sym (ap (λ (t : Bool). if t then words else (if handle == 1 then output else [])) e
-            ∙ ap (λ (t : Bool). if t then output else []) f)))
+        ∙ ap (λ (t : Bool). if t then output else []) f)))
     by_tests false false e f =
         ap (λ (xs : List ℕ). drop (length (before.written handle)) xs)
         (with_entry-other (with_entry before.written 1 (before.written 1 ++ output)) 2
-            (before.written 2 ++ words) handle e ∙ with_entry-other before.written 1 (before.written 1
-            ++ output) handle f)
+        (before.written 2 ++ words) handle e ∙ with_entry-other before.written 1 (before.written 1
+        ++ output) handle f)
         ∙ (behind_all (before.written handle) ∙ sym (ap (λ (t : Bool). if t then words else
-            (if handle == 1 then output else [])) e ∙ ap (λ (t : Bool). if t then output else []) f))
+        (if handle == 1 then output else [])) e ∙ ap (λ (t : Bool). if t then output else []) f))
 
 moved : (input output words : List ℕ) (before : Contents) → IsFront input (before.left 0) →
     Moved before (written_of input output words before)
@@ -177,9 +181,9 @@ moved input output words before f =
         ap before.left (handle-is handle 0 e)
         ∙ (f.1
         ∙ (ap (λ (xs : List ℕ). input ++ xs) (sym (ap (drop (length input)) f.1 ∙ drop_at input f.0
-            (length input) refl))
+        (length input) refl))
         ∙ (ap (λ (xs : List ℕ). input ++ xs) (sym (with_entry-at before.left 0 (drop (length input)
-            (before.left 0)) handle e))
+        (before.left 0)) handle e))
         ∙ ap (λ (xs : List ℕ). xs ++ after.left handle) (sym (ap (λ (u : Bool). if u then input else []) e)))))
     left-at handle false e =
         sym (with_entry-other before.left 0 (drop (length input) (before.left 0)) handle e)
@@ -211,13 +215,13 @@ moved input output words before f =
       output,
       with_entry-other (with_entry before.written 1 (before.written 1 ++ output)) 2 (before.written 2 ++ words) handle e
           ∙ (with_entry-at before.written 1 (before.written 1 ++ output) handle f
-              ∙ ap (λ (n : ℕ). before.written n ++ output) (sym (handle-is handle 1 f))),
+          ∙ ap (λ (n : ℕ). before.written n ++ output) (sym (handle-is handle 1 f))),
     )
     written-front handle false false e f = (
       [],
       with_entry-other (with_entry before.written 1 (before.written 1 ++ output)) 2 (before.written 2 ++ words) handle e
           ∙ (with_entry-other before.written 1 (before.written 1 ++ output) handle f
-              ∙ sym (append-nil (before.written handle))),
+          ∙ sym (append-nil (before.written handle))),
     )
 
 -- the handles of a command
@@ -253,7 +257,7 @@ none-written : (output words : List ℕ) (handle : ℕ) → output ≡ [] → (h
     written_at output words handle ≡ []
 none-written output words handle e f =
     ap (λ (xs : List ℕ). written_at xs words handle) e
-        ∙ (ap (λ (t : Bool). if t then words else (if handle == 1 then [] else [])) f ∙ by_test (handle == 1))
+    ∙ (ap (λ (t : Bool). if t then words else (if handle == 1 then [] else [])) f ∙ by_test (handle == 1))
   where
     by_test : (t : Bool) → ◌≡◌ {A = List ℕ} (if t then [] else []) []
     by_test true = refl
@@ -269,7 +273,7 @@ written-behind input output tally text before = after_write-twice 2 tally text
 pub answered : (words : List (List ℕ)) (limit : ℕ) (before mid after : Contents)
     (reads reads_mid faults faults_mid faults_now : ℕ) (status : Status) (answer : ℕ) (text : List ℕ) →
     answer ≡ code_of status → RanWords words limit before mid status →
-        Faulted reads reads_mid faults faults_mid status → after ≡ after_write 2 text mid →
+    Faulted reads reads_mid faults faults_mid status → after ≡ after_write 2 text mid →
     Says (Rose faults_mid faults_now) text (text_of status) → (text ≡ text_of status → faults_now ≡ faults_mid) →
     Answered words limit before after faults faults_now answer
 answered words limit before mid after reads reads_mid faults faults_mid faults_now status answer text number r fault wrote says told =
@@ -302,9 +306,9 @@ answered words limit before mid after reads reads_mid faults faults_mid faults_n
             within = subst (λ (xs : List ℕ). length xs ≤ limit) (sym input) r.within;
             ends =
                 subst (λ (xs : List ℕ). EndsAs c limit (before.left 0) xs
-                    (added_to 1 before all_written) r.tally status) (sym input)
+                (added_to 1 before all_written) r.tally status) (sym input)
                 (subst (λ (xs : List ℕ). EndsAs c limit (before.left 0) r.input xs r.tally status) (sym output)
-                    (r.ends c m));
+                (r.ends c m));
           };
       on_error = added-at r.input r.output (r.tally ++ text) before 2;
       text = says-earlier faults faults_mid faults_now status text reads reads_mid fault says;
@@ -345,8 +349,14 @@ answered words limit before mid after reads reads_mid faults faults_mid faults_n
         Faulted reads reads_mid before mid s → Says (Rose mid now) text (text_of s) →
         Says (Rose (before + faults_told s) now) text (text_of s)
     says-earlier before mid now s text reads reads_mid f says =
-        record { front = says.front; all = elim says.all [ inl e ↦ inl e | inr r ↦ inr
-            (rose-more before mid now s reads reads_mid f r) ] }
+        record {
+          front = says.front;
+          all = elim says.all [
+            | inl e ↦ inl e
+            | inr r ↦ inr
+                (rose-more before mid now s reads reads_mid f r)
+          ];
+        }
 
 -- a command that was carried out is what its words mean
 
@@ -382,8 +392,11 @@ ran-usage words limit before none =
 
 pub may-words : (c : Command) (words : List (List ℕ)) (status : Status) → Means words c → MayAnswer c status →
     MayAnswerWords words status
-may-words c words status m may = record { usage = λ e. absurd (subst (MayAnswer c) e may); other = λ not_usage.
-    (c, m, may) }
+may-words c words status m may = record {
+  usage = λ e. absurd (subst (MayAnswer c) e may);
+  other = λ not_usage.
+      (c, m, may);
+}
 
 -- what the answer says of a command
 
@@ -393,7 +406,7 @@ pub ends-at_status : (words : List (List ℕ)) (limit : ℕ) (before after : Con
     EndsAs c limit (before.left 0) (taken_off 0 before after) (added_to 1 before after) a.tally status
 ends-at_status words limit before after faults faults_now answer c status e m a =
     subst (EndsAs c limit (before.left 0) (taken_off 0 before after) (added_to 1 before after) a.tally)
-        (same_status a.status status (sym a.number ∙ e)) (a.did c m).ends
+    (same_status a.status status (sym a.number ∙ e)) (a.did c m).ends
 
 pub went_through : (words : List (List ℕ)) (limit : ℕ) (before after : Contents) (faults faults_now answer : ℕ)
     (c : Command) →
@@ -402,7 +415,7 @@ pub went_through : (words : List (List ℕ)) (limit : ℕ) (before after : Conte
 went_through words limit before after faults faults_now answer c all m a =
     at_the_end
     (λ s. EndsAs c limit (before.left 0) (taken_off 0 before after) (added_to 1 before after) a.tally s →
-        WentThrough c limit (before.left 0) (taken_off 0 before after) (added_to 1 before after) a.tally)
+    WentThrough c limit (before.left 0) (taken_off 0 before after) (added_to 1 before after) a.tally)
     (λ ends. ends.0) (λ ends. ends.0) (λ ends. ends.0) a.status (sym (ap read_all a.number) ∙ all) (a.did c m).ends
 
 is_whole-of : (c : Command) (s : Spec) (input : List ℕ) → ReadsOne c s → is_whole c input ≡ whole s input
@@ -413,12 +426,12 @@ is_whole-of (Listing traced t) s input e = ap (λ (u : Spec). whole u input) (sy
 pub cut-at_end : (words : List (List ℕ)) (limit : ℕ) (before after : Contents) (faults faults_now answer : ℕ)
     (c : Command) (s : Spec) → ReadsOne c s →
     read_all answer ≡ true → Means words c → (a : Answered words limit before after faults faults_now answer) →
-        (answer ≡ 5) ↔ (whole s (before.left 0) ≡ false)
+    (answer ≡ 5) ↔ (whole s (before.left 0) ≡ false)
 cut-at_end words limit before after faults faults_now answer c s reads all m a =
     subst (λ (n : ℕ). (n ≡ 5) ↔ (whole s (before.left 0) ≡ false)) (sym a.number)
     (at_the_end
     (λ t. EndsAs c limit (before.left 0) (taken_off 0 before after) (added_to 1 before after) a.tally t →
-        (code_of t ≡ 5) ↔ (whole s (before.left 0) ≡ false))
+    (code_of t ≡ 5) ↔ (whole s (before.left 0) ≡ false))
     (λ ends. (λ n. absurd (omega (arith, n)), λ h. absurd (wrong (sym (ends.1) ∙ cut h))))
     (λ ends. (λ n. absurd (omega (arith, n)), λ h. absurd (wrong (sym (ends.1) ∙ cut h))))
     (λ ends. (λ n. sym same ∙ ends.1, λ h. refl))
@@ -438,7 +451,7 @@ pub reads_all : (words : List (List ℕ)) (limit : ℕ) (before after : Contents
     (status : Status) (c : Command) →
     Means words c → MayAnswerWords words status → may_want_memory c ≡ false →
     (status ≡ Stopped ReadFault → reads) → (status ≡ Stopped Refused → writes) → (reads → ⊥) → (writes → ⊥) →
-        length (before.left 0) < limit →
+    length (before.left 0) < limit →
     RanWords words limit before after status → read_all (code_of status) ≡ true
 reads_all words limit before after reads writes Done c m may w r f nr nw short ran = refl
 reads_all words limit before after reads writes Noted c m may w r f nr nw short ran = refl
@@ -456,14 +469,14 @@ reads_all words limit before after reads writes (Stopped TooLong) c m may w r f 
 pub completes : (words : List (List ℕ)) (limit : ℕ) (before after : Contents) (faults faults_now answer : ℕ)
     (tally : Bool) (first : Spec) (between : List Spec) (last : Spec) →
     read_all answer ≡ true → Means words (Converting tally first between last) → whole first (before.left 0) ≡ true →
-        Answered words limit before after faults faults_now answer → answer ≡ 0
+    Answered words limit before after faults faults_now answer → answer ≡ 0
 completes words limit before after faults faults_now answer tally first between last all m is a =
     a.number
     ∙ at_the_end
     (λ t. EndsAs (Converting tally first between last) limit (before.left 0) (taken_off 0 before after)
-        (added_to 1 before after) a.tally t → code_of t ≡ 0)
+    (added_to 1 before after) a.tally t → code_of t ≡ 0)
     (λ ends. refl) (λ ends. absurd (ends.2))
-        (λ ends. absurd (wrong (sym is ∙ (ap (whole first) (ends.0).all ∙ ends.1))))
+    (λ ends. absurd (wrong (sym is ∙ (ap (whole first) (ends.0).all ∙ ends.1))))
     a.status (sym (ap read_all a.number) ∙ all) ((a.did (Converting tally first between last) m).ends)
 
 -- statuses that only some commands have
@@ -478,7 +491,7 @@ pub is_canonical : (first : Spec) (between : List Spec) (last : Spec) (read writ
     written ≡ through first between last read → through Din [] Din written ≡ written
 is_canonical first between last read written byte_line e =
     let same : written ≡ through first between Din read = e
-        ∙ ap (λ (s : Spec). through first between s read) byte_line in
+    ∙ ap (λ (s : Spec). through first between s read) byte_line in
     ap (through Din [] Din) same ∙ (through-canonical first between read ∙ sym same)
 
 pub usage_only : (words : List (List ℕ)) (status : Status) (answer : ℕ) → answer ≡ code_of status →

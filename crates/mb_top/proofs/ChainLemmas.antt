@@ -1,6 +1,6 @@
 -- What a chain of specs does, said of its conversion.
-use Rattle.std.proofs.Common.{subst, ◌≡◌, ℕ, zero, suc, ◌+◌, ◌≤◌, Bool, false, not, List, [], ◌∷◌, ◌++◌, length, take,
-    drop, refl, sym, ◌∙◌, ap, arith}
+use Rattle.std.proofs.Common.{subst, ◌≡◌, ℕ, zero, suc, ◌+◌, ◌≤◌, Bool, false, not, List, [], ◌∷◌, ◌++◌, length, take}
+use Rattle.std.proofs.Common.{drop, refl, sym, ◌∙◌, ap, arith}
 use Rattle.std.proofs.lemmas.List.{length-map, length-drop}
 use Rattle.mb_message.specs.Front.{IsFront, IsPart}
 use Rattle.mb_carrier.specs.Carrier.{whole, live, puts_known}
@@ -10,8 +10,8 @@ use Rattle.mb_carrier.proofs.GrowLemmas.{live-grows}
 use Rattle.mb_carrier.proofs.GrowSpecs.{grows}
 use Rattle.mb_carrier.specs.declared.spec.Spec.{Spec}
 use Rattle.mb_chain.specs.Row.{Link, link_of, links_from, live_over, through_over}
-use Rattle.mb_chain.specs.Chain.{links_of, chain_links, ChainStands, ChainEnded, ChainFed, ChainHalted, ChainFinished,
-    ChainEndHalted, crossing_all}
+use Rattle.mb_chain.specs.Chain.{links_of, chain_links, ChainStands, ChainEnded, ChainFed, ChainHalted, ChainFinished}
+use Rattle.mb_chain.specs.Chain.{ChainEndHalted, crossing_all}
 use Rattle.mb_chain.specs.declared.chain.Chain.{Chain}
 use Rattle.mb_chain.proofs.RowLemmas.{live-chain, through-chain, row-closes}
 use Rattle.mb_words.specs.Meaning.{front_of, end_of, converting}
@@ -28,18 +28,20 @@ chain-stays first between last bytes more = live-grows laws grows first between 
 pub chain-closes : (first : Spec) (between : List Spec) (last : Spec) (bytes : List ℕ) →
     IsFront (live_through first between last bytes) (through first between last bytes)
 chain-closes first between last bytes =
-    let f = row-closes (links_from first (between ++ last ∷ [])) none_set bytes in
-    (f.0, sym (through-chain first between last none_set bytes)
-        ∙ (f.1 ∙ ap (λ xs. xs ++ f.0) (live-chain first between last none_set bytes)))
+    let f = row-closes (links_from first (between ++ last ∷ [])) none_set bytes in (
+      f.0,
+      sym (through-chain first between last none_set bytes)
+          ∙ (f.1 ∙ ap (λ xs. xs ++ f.0) (live-chain first between last none_set bytes)),
+    )
 
 -- of nothing nothing is written
 none-over : (links : List Link) (m : ℕ → ℕ) → live_over links m [] ≡ []
 none-over [] m = refl
 none-over (l ∷ links) m =
     ap (λ ks. live_over links (moments_of l.writes 0 (puts_known l.reads m ks))
-        (live l.writes (puts_known l.reads m ks))) (grows l.reads).nothing_known
+    (live l.writes (puts_known l.reads m ks))) (grows l.reads).nothing_known
     ∙ (ap (live_over links (moments_of l.writes 0 [])) (grows l.writes).nothing
-        ∙ none-over links (moments_of l.writes 0 []))
+    ∙ none-over links (moments_of l.writes 0 []))
 
 pub chain-none : (first : Spec) (between : List Spec) (last : Spec) → live_through first between last [] ≡ []
 chain-none first between last = sym (live-chain first between last none_set [])
@@ -54,7 +56,7 @@ live-is tally (first ∷ []) links bytes same some = absurd (omega (arith, some)
 live-is tally (first ∷ s ∷ specs) links bytes same some =
     ap (λ (ls : List Link). live_over ls none_set bytes) same
     ∙ (ap (λ (ss : List Spec). live_over (links_from first ss) none_set bytes) (specs_again s specs)
-        ∙ live-chain first (front_of s specs) (end_of s specs) none_set bytes)
+    ∙ live-chain first (front_of s specs) (end_of s specs) none_set bytes)
 
 through-is : (tally : Bool) (specs : List Spec) (links : List Link) (bytes : List ℕ) → links ≡ links_of specs →
     2 ≤ length specs → through_over links none_set bytes ≡ output_of (converting tally specs) bytes
@@ -63,7 +65,7 @@ through-is tally (first ∷ []) links bytes same some = absurd (omega (arith, so
 through-is tally (first ∷ s ∷ specs) links bytes same some =
     ap (λ (ls : List Link). through_over ls none_set bytes) same
     ∙ (ap (λ (ss : List Spec). through_over (links_from first ss) none_set bytes) (specs_again s specs)
-        ∙ through-chain first (front_of s specs) (end_of s specs) none_set bytes)
+    ∙ through-chain first (front_of s specs) (end_of s specs) none_set bytes)
 
 pub chain-of : (specs : List Spec) (chain now : Chain) → chain_links now ≡ chain_links chain → ChainOf specs chain →
     ChainOf specs now
@@ -77,7 +79,7 @@ Stands specs chain bytes = ChainOf specs chain × ChainStands chain bytes
 pub chain-fed : (tally : Bool) (specs : List Spec) (chain now : Chain) (piece : List ℕ) (took : List ℕ → Type 0) →
     ChainOf specs chain → chain_links now ≡ chain_links chain →
     ChainFed (chain_links chain) (ChainStands chain) (ChainStands now) piece took →
-        JobFed (converting tally specs) (Stands specs chain) (Stands specs now) piece took
+    JobFed (converting tally specs) (Stands specs chain) (Stands specs now) piece took
 chain-fed tally specs chain now piece took c same f =
     record {
       given = f.given;
@@ -86,29 +88,29 @@ chain-fed tally specs chain now piece took c same f =
       beyond = λ bytes h.
           sym (live-is tally specs (chain_links chain) (bytes ++ piece) c.links c.some)
           ∙ (f.beyond bytes h.1 ∙ ap (λ xs. xs ++ f.given)
-              (live-is tally specs (chain_links chain) bytes c.links c.some));
+          (live-is tally specs (chain_links chain) bytes c.links c.some));
     }
 
 pub chain-halted : (tally : Bool) (specs : List Spec) (chain : Chain) (piece : List ℕ) (took : List ℕ → Type 0) →
     ChainOf specs chain →
     ChainHalted (chain_links chain) (ChainStands chain) piece took →
-        JobHalted (converting tally specs) (Stands specs chain) piece took
+    JobHalted (converting tally specs) (Stands specs chain) piece took
 chain-halted tally specs chain piece took c f =
     record {
       given = f.given;
       took_it = f.took_it;
       part = λ bytes h.
           subst (IsPart (live_output_of (converting tally specs) bytes ++ f.given))
-              (live-is tally specs (chain_links chain) (bytes ++ piece) c.links c.some)
+          (live-is tally specs (chain_links chain) (bytes ++ piece) c.links c.some)
           (subst (λ (xs : List ℕ). IsPart (xs ++ f.given) (live_over (chain_links chain) none_set (bytes ++ piece)))
-              (live-is tally specs (chain_links chain) bytes c.links c.some) (f.front bytes h.1));
+          (live-is tally specs (chain_links chain) bytes c.links c.some) (f.front bytes h.1));
     }
 
 pub chain-ended : (tally : Bool) (specs : List Spec) (chain now : Chain) (took : List ℕ → Type 0) →
     ChainOf specs chain → chain_links now ≡ chain_links chain →
     ChainFinished (chain_links chain) (ChainStands chain) (ChainEnded now) took →
-        JobEnded (converting tally specs) (Stands specs chain)
-        (λ bytes. ChainOf specs now × ChainEnded now bytes) false took
+    JobEnded (converting tally specs) (Stands specs chain)
+    (λ bytes. ChainOf specs now × ChainEnded now bytes) false took
 chain-ended tally specs chain now took c same f =
     record {
       given = f.given;
@@ -117,7 +119,7 @@ chain-ended tally specs chain now took c same f =
       beyond = λ bytes h.
           sym (through-is tally specs (chain_links chain) bytes c.links c.some)
           ∙ (f.beyond bytes h.1 ∙ ap (λ xs. xs ++ f.given)
-              (live-is tally specs (chain_links chain) bytes c.links c.some));
+          (live-is tally specs (chain_links chain) bytes c.links c.some));
       notes = λ bytes h. no_remark tally specs bytes c.some;
     }
   where
@@ -130,16 +132,16 @@ chain-ended tally specs chain now took c same f =
 pub chain-end_halted : (tally : Bool) (specs : List Spec) (chain : Chain) (took : List ℕ → Type 0) →
     ChainOf specs chain →
     ChainEndHalted (chain_links chain) (ChainStands chain) took →
-        JobEndHalted (converting tally specs) (Stands specs chain) took
+    JobEndHalted (converting tally specs) (Stands specs chain) took
 chain-end_halted tally specs chain took c f =
     record {
       given = f.given;
       took_it = f.took_it;
       part = λ bytes h.
           subst (IsPart (live_output_of (converting tally specs) bytes ++ f.given))
-              (through-is tally specs (chain_links chain) bytes c.links c.some)
+          (through-is tally specs (chain_links chain) bytes c.links c.some)
           (subst (λ (xs : List ℕ). IsPart (xs ++ f.given) (through_over (chain_links chain) none_set bytes))
-              (live-is tally specs (chain_links chain) bytes c.links c.some) (f.front bytes h.1));
+          (live-is tally specs (chain_links chain) bytes c.links c.some) (f.front bytes h.1));
     }
 
 -- how many hops there are
@@ -154,14 +156,17 @@ links-count (first ∷ specs) links same some = omega (arith, ap length same, fr
     from s (t ∷ ss) = ap (λ n. suc n) (from t ss)
 
 pub hops-count : (specs : List Spec) (chain : Chain) → ChainOf specs chain → length chain.hops.items + 1 ≡ length specs
-hops-count specs chain c = omega (arith, links-count specs (chain_links chain) c.links (omega (arith, c.some)),
-    length-map chain.hops.items link_of)
+hops-count specs chain c = omega (
+  arith,
+  links-count specs (chain_links chain) c.links (omega (arith, c.some)),
+  length-map chain.hops.items link_of,
+)
 
 -- whether the input is cut
 
 pub chain-cut : (tally : Bool) (specs : List Spec) (chain : Chain) (cut : Bool) (bytes : List ℕ) → ChainOf specs chain →
     ((first : Link) (behind : List Link) → chain_links chain ≡ first ∷ behind → cut ≡ not (whole first.reads bytes)) →
-        cut ≡ not (is_whole (converting tally specs) bytes)
+    cut ≡ not (is_whole (converting tally specs) bytes)
 chain-cut tally [] chain cut bytes c tells = absurd (omega (arith, c.some))
 chain-cut tally (first ∷ []) chain cut bytes c tells = absurd (omega (arith, c.some))
 chain-cut tally (first ∷ s ∷ specs) chain cut bytes c tells = tells (record { reads = first; writes = s })
@@ -194,4 +199,4 @@ crossing-is (first ∷ specs) rest links (suc at) s bytes same e =
     ap (λ (ls : List Link). through_over (take (suc at) ls) none_set bytes) same
     ∙ (ap (λ (ls : List Link). through_over ls none_set bytes) (links-take first specs (suc at))
     ∙ (ap (λ (ss : List Spec). through_over (links_from first ss) none_set bytes) (take-next specs rest at s e)
-        ∙ through-chain first (take at specs) s none_set bytes))
+    ∙ through-chain first (take at specs) s none_set bytes))

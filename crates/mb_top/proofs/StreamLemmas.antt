@@ -1,6 +1,6 @@
 -- A command on its way, over a desk that tells its contents.
-use Rattle.std.proofs.Common.{◌≡◌, Bool, IsTrue, ℕ, ◌+◌, ◌-◌, ◌<◌, ◌≤◌, true, false, not, List, ◌++◌, [], map, length,
-    take, drop, refl, inl, inr, sym, ◌∙◌, ap, subst, append_assoc, arith, length-append}
+use Rattle.std.proofs.Common.{◌≡◌, Bool, IsTrue, ℕ, ◌+◌, ◌-◌, ◌<◌, ◌≤◌, true, false, not, List, ◌++◌, [], map, length}
+use Rattle.std.proofs.Common.{take, drop, refl, inl, inr, sym, ◌∙◌, ap, subst, append_assoc, arith, length-append}
 use Rattle.std.proofs.lemmas.List.{append-nil, take-append-drop, drop_at, length-take-le, take-append-le}
 use Rattle.mb_outside.specs.Contents.{Contents, Gives, after_read, after_write}
 use Rattle.mb_outside.specs.ContentsLaws.{after_read-none, after_read-twice, after_write-none, after_write-twice}
@@ -79,8 +79,8 @@ read-piece c before old now bytes buffer piece count s g cut =
           ∙ (ap (after_read 0 count) s.contents
           ∙ (ap (after_write 1 (live_output_of c bytes))
           (after_read-twice 0 count (length bytes) before
-              ∙ ap (λ (n : ℕ). after_read 0 n before)
-              (sym (length-append bytes piece ∙ ap (λ n. length bytes + n) size)))));
+          ∙ ap (λ (n : ℕ). after_read 0 n before)
+          (sym (length-append bytes piece ∙ ap (λ n. length bytes + n) size)))));
     }
 
 -- the next piece was written
@@ -118,17 +118,20 @@ ran-too_long c limit before now bytes same s =
 -- the end was read
 pub at-end : (c : Command) (before old now : Contents) (bytes buffer : List ℕ) (count : ℕ) →
     SoFar c before old bytes → Gives old now 0 count buffer → count ≡ 0 → 0 < length buffer →
-        (SoFar c before now bytes) × (before.left 0 ≡ bytes)
+    (SoFar c before now bytes) × (before.left 0 ≡ bytes)
 at-end c before old now bytes buffer count s g none room = (
-  record { front = s.front; contents = ((g.contents ∙ ap (λ (n : ℕ). after_read 0 n old) none)
-      ∙ after_read-none 0 old) ∙ s.contents },
+  record {
+    front = s.front;
+    contents = ((g.contents ∙ ap (λ (n : ℕ). after_read 0 n old) none)
+        ∙ after_read-none 0 old) ∙ s.contents;
+  },
   (s.front).1 ∙ (ap (λ xs. bytes ++ xs) (sym (left-now c before old bytes s) ∙ g.ends none room) ∙ append-nil bytes),
 )
 
 -- what the end did, behind what was written before
 pub ran-end : (c d : Command) (limit : ℕ) (before old now : Contents) (bytes : List ℕ) (status : Status) →
     d ≡ c → length bytes < limit → SoFar c before old bytes → before.left 0 ≡ bytes → RanEnd d bytes old now status →
-        Ran c limit before now status
+    Ran c limit before now status
 ran-end c d limit before old now bytes status same below s all r =
     record {
       input = bytes;
@@ -137,13 +140,13 @@ ran-end c d limit before old now bytes status same below s all r =
       contents =
           r.contents
           ∙ ap (after_write 2 r.tally) (ap (after_write 1 r.output) s.contents
-              ∙ after_write-twice 1 (live_output_of c bytes) r.output (after_read 0 (length bytes) before));
+          ∙ after_write-twice 1 (live_output_of c bytes) r.output (after_read 0 (length bytes) before));
       front = s.front;
       within = omega (arith, below);
       ends =
           subst (λ (xs : List ℕ). EndsAs c limit xs bytes (live_output_of c bytes ++ r.output) r.tally status) (sym all)
           (subst (λ (x : Command). EndsAs x limit bytes bytes
-              (live_output_of x bytes ++ r.output) r.tally status) same (r.ends limit below));
+          (live_output_of x bytes ++ r.output) r.tally status) same (r.ends limit below));
     }
 
 -- the answer at the end, by whether the input is cut and whether it was remarked
@@ -160,7 +163,7 @@ pub end-ran : (c d : Command) (before mid now : Contents) (bytes : List ℕ) (wa
     (cut noted : Bool) (took tells : List ℕ → Type 0) (status : Status) →
     d ≡ c → status ≡ at_end cut noted → was bytes → cut ≡ not (is_whole c bytes) →
     (e : JobEnded c was done noted took) → mid ≡ after_write 1 e.given before → (t : JobTold d done tells) →
-        now ≡ after_write 2 t.given mid → RanEnd c bytes before now status
+    now ≡ after_write 2 t.given mid → RanEnd c bytes before now status
 end-ran c d before mid now bytes was done cut noted took tells status same_command same stands is_cut e wrote t told =
     record {
       output = e.given;
@@ -176,7 +179,7 @@ end-ran c d before mid now bytes was done cut noted took tells status same_comma
           } in
           subst (λ (x : Status). EndsAs c limit bytes bytes (live_output_of c bytes ++ e.given) t.given x) (sym same)
           (ends-at c limit bytes bytes (live_output_of c bytes ++ e.given) t.given cut noted w is_cut
-              (e.notes bytes stands));
+          (e.notes bytes stands));
     }
 
 -- notes are answered of a command that answers them
@@ -207,9 +210,11 @@ live-front c p bytes f =
 all_but_last-front : (bytes piece : List ℕ) → length piece ≤ PIECE → IsFront (all_but_last PIECE (bytes ++ piece)) bytes
 all_but_last-front bytes piece few =
     let n = length (bytes ++ piece) - PIECE in
-    let short : length (bytes ++ piece) - PIECE ≤ length bytes = omega (arith, length-append bytes piece) in
-    (drop n bytes, sym (take-append-drop n bytes)
-        ∙ ap (λ xs. xs ++ drop n bytes) (sym (take-append-le n bytes piece short)))
+    let short : length (bytes ++ piece) - PIECE ≤ length bytes = omega (arith, length-append bytes piece) in (
+      drop n bytes,
+      sym (take-append-drop n bytes)
+          ∙ ap (λ xs. xs ++ drop n bytes) (sym (take-append-le n bytes piece short)),
+    )
 
 all_but_last-own : (bytes : List ℕ) → IsFront (all_but_last PIECE bytes) bytes
 all_but_last-own bytes = (drop (length bytes - PIECE) bytes, sym (take-append-drop (length bytes - PIECE) bytes))
@@ -224,7 +229,7 @@ known-front c bytes given = front-then _ _ _ (live-front c (all_but_last PIECE b
 pub end-halted : (c : Command) (before now : Contents) (bytes : List ℕ) (was : List ℕ → Type 0)
     (took : List ℕ → Type 0) →
     was bytes → (h : JobEndHalted c was took) → now ≡ after_write 1 h.given before →
-        RanEnd c bytes before now (Stopped Refused)
+    RanEnd c bytes before now (Stopped Refused)
 end-halted c before now bytes was took stands h wrote =
     record {
       output = h.given;
@@ -243,7 +248,7 @@ end-halted c before now bytes was took stands h wrote =
 pub tell-halted : (c d : Command) (before mid now : Contents) (bytes : List ℕ) (was done : List ℕ → Type 0)
     (noted : Bool) (took tells : List ℕ → Type 0) →
     d ≡ c → was bytes → (e : JobEnded c was done noted took) → mid ≡ after_write 1 e.given before →
-        (h : JobTellHalted d done tells) → now ≡ after_write 2 h.given mid →
+    (h : JobTellHalted d done tells) → now ≡ after_write 2 h.given mid →
     RanEnd c bytes before now (Stopped Refused)
 tell-halted c d before mid now bytes was done noted took tells same_command stands e wrote h told =
     record {
@@ -266,7 +271,7 @@ tell-halted c d before mid now bytes was done noted took tells same_command stan
 -- a piece was refused
 pub ran-halted : (c : Command) (limit count : ℕ) (before old now : Contents) (bytes piece given : List ℕ) →
     length piece ≡ count → length bytes + count ≤ limit → count ≤ PIECE → Read c before old bytes piece →
-        now ≡ after_write 1 given old →
+    now ≡ after_write 1 given old →
     IsPart (live_output_of c bytes ++ given) (live_output_of c (bytes ++ piece)) →
     Ran c limit before now (Stopped Refused)
 ran-halted c limit count before old now bytes piece given size within few s wrote part =
@@ -277,7 +282,7 @@ ran-halted c limit count before old now bytes piece given size within few s wrot
       contents =
           quietly (bytes ++ piece) _ before now
           (wrote ∙ (ap (after_write 1 given) s.contents
-              ∙ after_write-twice 1 (live_output_of c bytes) given (after_read 0 (length (bytes ++ piece)) before)));
+          ∙ after_write-twice 1 (live_output_of c bytes) given (after_read 0 (length (bytes ++ piece)) before)));
       front = s.front;
       within = omega (arith, length-append bytes piece, size);
       ends = record {
@@ -319,7 +324,7 @@ pub so_far-fed : {S : Type 0} (tells : Bool) (contents : S → Contents) (read_f
     (IsTrue tells → SoFar c (contents start) (contents old) bytes) →
     (IsTrue tells → Gives (contents old) (contents mid) 0 count buffer) → piece ≡ take count buffer →
     (all : List ℕ) × (length all ≡ taken + count) × goes all ×
-        (IsTrue tells → SoFar c (contents start) (contents now) all)
+    (IsTrue tells → SoFar c (contents start) (contents now) all)
 so_far-fed tells contents read_faults c was goes start old mid now bytes piece buffer taken count f size more stands told gives cut = (
   bytes ++ piece,
   omega (arith, length-append bytes piece, size, more),

@@ -1,6 +1,6 @@
 -- The tally, line by line.
-use Rattle.std.proofs.Common.{subst, ◌≡◌, ℕ, zero, suc, ◌+◌, ◌<◌, ◌≤◌, List, [], ◌∷◌, ◌++◌, length, take, drop, refl,
-    sym, ◌∙◌, ap, arith, append_assoc}
+use Rattle.std.proofs.Common.{subst, ◌≡◌, ℕ, zero, suc, ◌+◌, ◌<◌, ◌≤◌, List, [], ◌∷◌, ◌++◌, length, take, drop, refl}
+use Rattle.std.proofs.Common.{sym, ◌∙◌, ap, arith, append_assoc}
 use Rattle.std.specs.Prelude.{slice_index_or}
 use Rattle.std.proofs.lemmas.List.{append-nil, length-take-le}
 use Rattle.mb_message.specs.Front.{IsPart}
@@ -36,27 +36,27 @@ pub next_line : (specs : List Spec) (links : List Link) (at count : ℕ) (d s : 
     links ≡ links_of specs → at < length specs → s ≡ slice_index_or specs at d →
     count ≡ length (crossing_all links at bytes) →
     tally_from (take at specs) (drop at specs) bytes
-        ≡ hop_text at s count ++ tally_from (take (at + 1) specs) (drop (at + 1) specs) bytes
+    ≡ hop_text at s count ++ tally_from (take (at + 1) specs) (drop (at + 1) specs) bytes
 next_line specs links at count d s bytes same within is counted =
     let next : drop at specs ≡ s ∷ drop (suc at) specs = next_spec specs at d within
-        ∙ ap (λ (x : Spec). x ∷ drop (suc at) specs) (sym is) in
+    ∙ ap (λ (x : Spec). x ∷ drop (suc at) specs) (sym is) in
     let further : suc at ≡ at + 1 = omega arith in
     let place : length (take at specs) ≡ at = length-take-le at specs (omega (arith, within)) in
     ap (λ (ss : List Spec). tally_from (take at specs) ss bytes) next
     ∙ (ap (λ (n : ℕ). hop_text n s (length (crossing (take at specs) s bytes))
-        ++ tally_from (take at specs ++ s ∷ []) (drop (suc at) specs) bytes) place
+    ++ tally_from (take at specs ++ s ∷ []) (drop (suc at) specs) bytes) place
     ∙ (ap (λ (n : ℕ). hop_text at s n ++ tally_from (take at specs ++ s ∷ []) (drop (suc at) specs) bytes)
-        (sym (counted ∙ ap length (crossing-is specs (drop (suc at) specs) links at s bytes same next)))
+    (sym (counted ∙ ap length (crossing-is specs (drop (suc at) specs) links at s bytes same next)))
     ∙ (ap (λ (ss : List Spec). hop_text at s count ++ tally_from ss (drop (suc at) specs) bytes)
-        (sym (take-next specs (drop (suc at) specs) at s next))
+    (sym (take-next specs (drop (suc at) specs) at s next))
     ∙ ap (λ (n : ℕ). hop_text at s count ++ tally_from (take n specs) (drop n specs) bytes) further)))
 
 pub told-more : (specs : List Spec) (chain : Chain) (at count : ℕ) (d s : Spec) (line : List ℕ)
     (took next now : List ℕ → Type 0) →
     ChainOf specs chain → at < length specs → s ≡ slice_index_or specs at d →
-        ((bytes : List ℕ) → ChainEnded chain bytes → count ≡ length (crossing_all (chain_links chain) at bytes)) →
+    ((bytes : List ℕ) → ChainEnded chain bytes → count ≡ length (crossing_all (chain_links chain) at bytes)) →
     line ≡ hop_text at s count → next line → ((x y : List ℕ) → took x → next y → now (x ++ y)) →
-        ToldSoFar specs (ChainEnded chain) at took → ToldSoFar specs (ChainEnded chain) (at + 1) now
+    ToldSoFar specs (ChainEnded chain) at took → ToldSoFar specs (ChainEnded chain) (at + 1) now
 told-more specs chain at count d s line took next now c within is counted line_is took_line both t =
     record {
       given = t.given ++ line;
@@ -64,8 +64,8 @@ told-more specs chain at count d s line took next now c within is counted line_i
       rest = λ bytes h.
           t.rest bytes h
           ∙ (ap (λ xs. t.given ++ xs) (next_line specs (chain_links chain) at count d s bytes c.links within is
-              (counted bytes h) ∙ ap (λ xs. xs ++ tally_from (take (at + 1) specs) (drop (at + 1) specs) bytes)
-              (sym line_is))
+          (counted bytes h) ∙ ap (λ xs. xs ++ tally_from (take (at + 1) specs) (drop (at + 1) specs) bytes)
+          (sym line_is))
           ∙ sym (append_assoc t.given line (tally_from (take (at + 1) specs) (drop (at + 1) specs) bytes)));
     }
 
@@ -88,9 +88,9 @@ told-all specs ended at took all t =
 pub told-halted : (specs : List Spec) (chain : Chain) (at count : ℕ) (d s : Spec) (line front : List ℕ)
     (took next now : List ℕ → Type 0) →
     ChainOf specs chain → at < length specs → s ≡ slice_index_or specs at d →
-        ((bytes : List ℕ) → ChainEnded chain bytes → count ≡ length (crossing_all (chain_links chain) at bytes)) →
+    ((bytes : List ℕ) → ChainEnded chain bytes → count ≡ length (crossing_all (chain_links chain) at bytes)) →
     line ≡ hop_text at s count → IsPart front line → next front → ((x y : List ℕ) → took x → next y → now (x ++ y)) →
-        ToldSoFar specs (ChainEnded chain) at took → TalliedPart specs (ChainEnded chain) now
+    ToldSoFar specs (ChainEnded chain) at took → TalliedPart specs (ChainEnded chain) now
 told-halted specs chain at count d s line front took next now c within is counted line_is f took_front both t =
     record {
       given = t.given ++ front;
@@ -99,7 +99,7 @@ told-halted specs chain at count d s line front took next now c within is counte
           let rest = tally_from (take (at + 1) specs) (drop (at + 1) specs) bytes in
           subst (IsPart (t.given ++ front))
           (sym (t.rest bytes h ∙ ap (λ xs. t.given ++ xs)
-              (next_line specs (chain_links chain) at count d s bytes c.links within is (counted bytes h)
-              ∙ ap (λ xs. xs ++ rest) (sym line_is))))
+          (next_line specs (chain_links chain) at count d s bytes c.links within is (counted bytes h)
+          ∙ ap (λ xs. xs ++ rest) (sym line_is))))
           (part-behind t.given front (line ++ rest) (part-within front line (line ++ rest) f (rest, refl)));
     }

@@ -18,7 +18,7 @@ abbrev pub OfConversion : (tells : Bool) (words : List (List ℕ)) (answer : ℕ
     (claim : (first : Spec) (between : List Spec) (last : Spec) (read written : List ℕ) → Type 0) → Type 0
 OfConversion tells words answer before after claim =
     (tally : Bool) (first : Spec) (between : List Spec) (last : Spec) → IsTrue tells →
-        Means words (Converting tally first between last) → read_all answer ≡ true →
+    Means words (Converting tally first between last) → read_all answer ≡ true →
     claim first between last (taken_off 0 before after) (added_to 1 before after)
 
 abbrev pub OfListing : (tells : Bool) (words : List (List ℕ)) (answer : ℕ) (before after : Contents)
@@ -35,7 +35,7 @@ OfReader tells words before claim = (c : Command) (s : Spec) → IsTrue tells �
 abbrev pub IsTallied : (tells : Bool) (words : List (List ℕ)) (answer : ℕ) (before after : Contents) → Type 0
 IsTallied tells words answer before after =
     (c : Command) → IsTrue tells → Means words c → read_all answer ≡ true →
-        IsFront (tally_of c (taken_off 0 before after)) (added_to 2 before after)
+    IsFront (tally_of c (taken_off 0 before after)) (added_to 2 before after)
 
 pub record Unhindered (reads reads_now writes writes_now : ℕ) : Type 0 where
   pub reading : Rose reads reads_now → ⊥

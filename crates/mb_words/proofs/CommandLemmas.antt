@@ -1,6 +1,6 @@
 -- Words are one command at most: names differ, and each command's words give its parts.
-use Rattle.std.proofs.Common.{◌≡◌, ℕ, suc, Bool, true, false, if◌then◌else◌, List, [], ◌∷◌, ◌++◌, length, refl, sym,
-    ◌∙◌, ap, subst, arith, codes}
+use Rattle.std.proofs.Common.{◌≡◌, ℕ, suc, Bool, true, false, if◌then◌else◌, List, [], ◌∷◌, ◌++◌, length, refl, sym}
+use Rattle.std.proofs.Common.{◌∙◌, ap, subst, arith, codes}
 use Rattle.std.specs.Str.{bytes_eq}
 use Rattle.mb_carrier.specs.Word.{IsWordOf, AreSpecs}
 use Rattle.mb_carrier.specs.declared.spec.Spec.{Spec}
@@ -25,7 +25,7 @@ same_specs (w ∷ words) [] ts a b = elim a [ ]
 same_specs (w ∷ words) (s ∷ ss) [] a b = elim b [ ]
 same_specs (w ∷ words) (s ∷ ss) (t ∷ ts) a b =
     ap (λ (x : Spec). x ∷ ss) (one_spec w s t a.0 b.0)
-        ∙ ap (λ (xs : List Spec). t ∷ xs) (same_specs words ss ts a.1 b.1)
+    ∙ ap (λ (xs : List Spec). t ∷ xs) (same_specs words ss ts a.1 b.1)
 
 pub as_many : (words : List (List ℕ)) (specs : List Spec) → AreWordsOf words specs → length words ≡ length specs
 as_many [] [] a = refl
@@ -96,7 +96,7 @@ converting_again : (tally : Bool) (first : Spec) (between : List Spec) (last : S
 converting_again tally first [] last = refl
 converting_again tally first (s ∷ between) last =
     ap (λ (specs : List Spec). Converting tally first specs (end_of s (between ++ last ∷ [])))
-        (front_again s between last)
+    (front_again s between last)
     ∙ ap (λ (t : Spec). Converting tally first (s ∷ between) t) (end_again s between last)
 
 again : (c : Command) → rebuilt (name_of c) (asks_tally c) (specs_of c) ≡ c
@@ -109,7 +109,7 @@ one_command words c d m n =
     let same = sym m.words_are ∙ n.words_are in
     let name : name_of c ≡ name_of d = heads _ _ _ _ same in
     let behind = same_behind (asks_tally c) (asks_tally d) m.arguments n.arguments (specs_of c) (specs_of d)
-        (tails _ _ _ _ same) m.are_specs n.are_specs in
+    (tails _ _ _ _ same) m.are_specs n.are_specs in
     sym (again c)
     ∙ (ap (λ (x : List ℕ). rebuilt x (asks_tally c) (specs_of c)) name
     ∙ (ap (λ (t : Bool). rebuilt (name_of d) t (specs_of c)) behind.0

@@ -1,6 +1,6 @@
 -- What is read of words, place by place.
-use Rattle.std.proofs.Common.{◌≡◌, ℕ, zero, suc, ◌+◌, ◌≤◌, Bool, true, false, List, [], ◌∷◌, ◌++◌, length, drop, refl,
-    sym, ◌∙◌, ap, subst, arith, codes, length-append, append_assoc}
+use Rattle.std.proofs.Common.{◌≡◌, ℕ, zero, suc, ◌+◌, ◌≤◌, Bool, true, false, List, [], ◌∷◌, ◌++◌, length, drop, refl}
+use Rattle.std.proofs.Common.{sym, ◌∙◌, ap, subst, arith, codes, length-append, append_assoc}
 use Rattle.std.specs.Prelude.{slice_get, slice_index_or, Option, Some, None, IfNone}
 use Rattle.std.proofs.lemmas.List.{length-drop, append-nil}
 use Rattle.mb_carrier.specs.Word.{IsWordOf}
@@ -117,12 +117,12 @@ pub only_listing : (words : List (List ℕ)) (traced : Bool) (c : Command) →
     slice_get words 0 ≡ Some (listing_word traced) → Means words c → IsListing words
 only_listing words true (Converting tally first between last) e m =
     (let differ : 116 ≡ 99 = ap (letter_at 0)
-        (first_word words (listing_word true) (Converting tally first between last) m e) in absurd
-        (omega (arith, differ)))
+    (first_word words (listing_word true) (Converting tally first between last) m e) in absurd
+    (omega (arith, differ)))
 only_listing words false (Converting tally first between last) e m =
     (let differ : 104 ≡ 111 = ap (letter_at 1)
-        (first_word words (listing_word false) (Converting tally first between last) m e) in absurd
-        (omega (arith, differ)))
+    (first_word words (listing_word false) (Converting tally first between last) m e) in absurd
+    (omega (arith, differ)))
 only_listing words traced (Listing v s) e m = is_listing words v s m
 
 -- a conversion
@@ -130,7 +130,7 @@ only_listing words traced (Listing v s) e m = is_listing words v s m
 pub conversion-means : (words : List (List ℕ)) (tally : Bool) (specs : List Spec) →
     slice_get words 0 ≡ Some (codes "convert") → (tally ≡ true → slice_get words 1 ≡ Some (codes "tally")) →
     AreWordsOf (drop (place_of_specs tally) words) specs → 2 ≤ length specs → length specs ≤ 10 →
-        Means words (converting tally specs)
+    Means words (converting tally specs)
 conversion-means words true [] name option are some few = absurd (omega (arith, some))
 conversion-means words true (first ∷ []) name option are some few = absurd (omega (arith, some))
 conversion-means words true (first ∷ s ∷ specs) name option are some few =
@@ -158,8 +158,8 @@ pub record IsConversion (words : List (List ℕ)) (tally : Bool) : Type 0 where
 
 is_conversion : (words : List (List ℕ)) (tally v : Bool) (first : Spec) (between : List Spec) (last : Spec) →
     (tally ≡ true → slice_get words 1 ≡ Some (codes "tally")) →
-        (tally ≡ false → slice_get words 1 ≡ Some (codes "tally") → ⊥) →
-        Means words (Converting v first between last) → IsConversion words tally
+    (tally ≡ false → slice_get words 1 ≡ Some (codes "tally") → ⊥) →
+    Means words (Converting v first between last) → IsConversion words tally
 is_conversion words true true first between last asked unasked m =
     record {
       specs = first ∷ (between ++ last ∷ []);
@@ -179,22 +179,22 @@ is_conversion words false false first between last asked unasked m =
 is_conversion words true false first between last asked unasked m =
     absurd (no_tally m.arguments (drop 1 m.arguments) (first ∷ (between ++ last ∷ []))
     (begins m.arguments (codes "tally") (sym (ap (λ (xs : List (List ℕ)). slice_get xs 1) m.words_are)
-        ∙ asked refl)) m.are_specs)
+    ∙ asked refl)) m.are_specs)
 is_conversion words false true first between last asked unasked m = absurd
     (unasked refl (ap (λ (xs : List (List ℕ)). slice_get xs 1) m.words_are))
 
 pub only_conversion : (words : List (List ℕ)) (tally : Bool) (c : Command) →
     slice_get words 0 ≡ Some (codes "convert") →
     (tally ≡ true → slice_get words 1 ≡ Some (codes "tally")) →
-        (tally ≡ false → slice_get words 1 ≡ Some (codes "tally") → ⊥) → Means words c → IsConversion words tally
+    (tally ≡ false → slice_get words 1 ≡ Some (codes "tally") → ⊥) → Means words c → IsConversion words tally
 only_conversion words tally
     (Converting v first between last) e asked unasked m = is_conversion words tally v first between last asked unasked m
 only_conversion words tally (Listing true s) e asked unasked m =
     (let differ : 99 ≡ 116 = ap (letter_at 0) (first_word words (codes "convert") (Listing true s) m e) in absurd
-        (omega (arith, differ)))
+    (omega (arith, differ)))
 only_conversion words tally (Listing false s) e asked unasked m =
     (let differ : 111 ≡ 104 = ap (letter_at 1) (first_word words (codes "convert") (Listing false s) m e) in absurd
-        (omega (arith, differ)))
+    (omega (arith, differ)))
 
 pub none_some : {A : Type 0} (r : Option A) (x : A) → r ≡ None → r ≡ Some x → ⊥
 none_some r x e f = let same = sym e ∙ f in cc
@@ -225,12 +225,12 @@ pub read-never : (words left rest : List (List ℕ)) (specs all : List Spec) (w 
     r ≡ None → ((s : Spec) → IsWordOf w s → r ≡ Some s) → ⊥
 read-never words left rest specs all w r next are none only =
     let s = word_in r.before rest w all (subst (λ (xs : List (List ℕ)). AreWordsOf xs all) (r.cut ∙ ap (λ (xs : List
-        (List ℕ)). r.before ++ xs) next) are) in
+    (List ℕ)). r.before ++ xs) next) are) in
     none_some _ s.0 none (only s.0 s.1)
 
 pub read-all : (words left : List (List ℕ)) (specs : List Spec) → ReadSoFar words left specs → length left ≡ 0 →
     AreWordsOf words specs
 read-all words left specs r done =
     subst (λ (xs : List (List ℕ)). AreWordsOf xs specs)
-        (sym (append-nil r.before) ∙ (ap (λ (xs : List (List ℕ)). r.before ++ xs) (sym (none_left left done))
-        ∙ sym r.cut)) r.are
+    (sym (append-nil r.before) ∙ (ap (λ (xs : List (List ℕ)). r.before ++ xs) (sym (none_left left done))
+    ∙ sym r.cut)) r.are

@@ -1,7 +1,7 @@
 //! The words of a command line as a command.
 
-ghost use Rattle.std.specs.Prelude.{◌≡◌, ℕ, ◌≤◌, Bool, true, false, List, length, drop, slice_get, codes, Some,
-    IfSome, IfNone, IfOk, OnErr};
+ghost use Rattle.std.specs.Prelude.{◌≡◌, ℕ, ◌≤◌, Bool, true, false, List, length, drop, slice_get, codes, Some, IfSome};
+ghost use Rattle.std.specs.Prelude.{IfNone, IfOk, OnErr};
 ghost use Rattle.mb_carrier.specs.declared.spec.Spec.{Spec};
 ghost use Rattle.mb_words.specs.Command as words_mean;
 ghost use Rattle.mb_words.specs.Command.{Means, AreWordsOf, listing_word};

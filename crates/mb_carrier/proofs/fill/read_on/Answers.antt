@@ -9,7 +9,7 @@ use Rattle.mb_carrier.proofs.fill.read_on.Goals as goal
 pub returns-then-not-may_stand-clause-left : goal.returns-then-not-may_stand-clause-left
 returns-then-not-may_stand-clause-left g c = λ moments bytes puts base f.
     flows-owes _ _ moments _ c.args.apart c.args.at _ _ bytes _ _ _ puts base _
-        (ap (puts_at (g.R.EventReader.moment c.next.new.self c.args.moment)) (sym c.event_of.ensures.signs))
+    (ap (puts_at (g.R.EventReader.moment c.next.new.self c.args.moment)) (sym c.event_of.ensures.signs))
     (flows-seen _ _ _ moments _ c.args.apart c.args.at _ _ _ _ bytes _ _ puts base _ c.in-Some.seen c.events.invariant.reads c.in-Some.ensures.goes (c.events.invariant.flows moments bytes puts base f))
 
 pub put_seen-requires-clause-suits : goal.put_seen-requires-clause-suits
@@ -36,8 +36,8 @@ events-preserved g c =
       later = omega (arith, c.in-Some.ensures.progress, c.events.invariant.later);
       flows = λ moments bytes puts base f.
           flows-empty _ _ moments _ c.args.apart c.args.at _ _ bytes _
-              (g.R.EventReader.moment c.next.new.self c.args.moment) c.put_seen.new.run.now puts base _
-              (c.if-not-put_seen.ensures.empty refl)
+          (g.R.EventReader.moment c.next.new.self c.args.moment) c.put_seen.new.run.now puts base _
+          (c.if-not-put_seen.ensures.empty refl)
           (flows-step _ _ _ _ moments _ c.args.apart c.args.at _ _ _ _ _ _ bytes _ _ _ puts base _ _ c.in-Some.seen c.events.invariant.reads c.events.invariant.writes c.moment-now.ensures (c.if-not-may_stand.ensures refl)
           c.in-Some.ensures.goes c.put_seen.ensures.put (c.events.invariant.flows moments bytes puts base f));
     }

@@ -19,9 +19,9 @@ invariant-events g l =
       later : 2 * length l.rest.now + R.owed l.reader ≤ 2 * length l.initial.rest.now + R.owed l.initial.reader;
       flows : (moments : ℕ → ℕ) (bytes : List ℕ) (puts : List Put) (base : List ℕ) →
           Flows (R.spec l.initial.reader) (W.spec l.initial.writer) moments l.moment (R.stands l.initial.reader)
-              (W.stands l.initial.writer) bytes l.initial.rest.now [] puts base l.initial.held.items →
+          (W.stands l.initial.writer) bytes l.initial.rest.now [] puts base l.initial.held.items →
           FlowsMore (R.spec l.initial.reader) (W.spec l.initial.writer) moments l.moment l.apart l.at
-              (R.stands l.reader) (W.stands l.writer) bytes l.rest.now [] puts base l.held.items;
+          (R.stands l.reader) (W.stands l.writer) bytes l.rest.now [] puts base l.held.items;
     }
 
 abbrev pub decreases-events : goal.decreases-events

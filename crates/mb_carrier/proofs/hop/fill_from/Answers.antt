@@ -6,11 +6,11 @@ use Rattle.mb_carrier.proofs.hop.fill_from.Goals as goal
 pub returns-in-Din-clause-goes_on : goal.returns-in-Din-clause-goes_on
 returns-in-Din-clause-goes_on g c =
     ways-written _ _ (writer.Din c.in-Din.writer) (g.R.EventReader.moment c.args.reader.now) _
-        (g.R.EventReader.stands c.args.reader.now) _ _ c.args.apart _ (Some c.args.piece) _ c.args.held.now.items _
+    (g.R.EventReader.stands c.args.reader.now) _ _ c.args.apart _ (Some c.args.piece) _ c.args.held.now.items _
     c.in-Din.is c.fill_pair.ensures.goes_on
 
 pub returns-in-Usb-clause-goes_on : goal.returns-in-Usb-clause-goes_on
 returns-in-Usb-clause-goes_on g c =
     ways-written _ _ (writer.Usb c.in-Usb.writer) (g.R.EventReader.moment c.args.reader.now) _
-        (g.R.EventReader.stands c.args.reader.now) _ _ c.args.apart _ (Some c.args.piece) _ c.args.held.now.items _
+    (g.R.EventReader.stands c.args.reader.now) _ _ c.args.apart _ (Some c.args.piece) _ c.args.held.now.items _
     c.in-Usb.is c.fill_pair-in-Usb.ensures.goes_on

@@ -7,11 +7,11 @@ use Rattle.mb_carrier.proofs.hop.fill_hop.Goals as goal
 pub returns-in-Din-clause-goes_on : goal.returns-in-Din-clause-goes_on
 returns-in-Din-clause-goes_on c =
     ways-read _ (reader.Din c.in-Din.reader) _ _ _ (WriterStands c.args.writer.now) _ c.args.apart c.args.piece.moment
-        (Some c.args.piece) _ c.args.held.now.items _
+    (Some c.args.piece) _ c.args.held.now.items _
     c.in-Din.is c.fill_from.ensures.goes_on
 
 pub returns-in-Usb-clause-goes_on : goal.returns-in-Usb-clause-goes_on
 returns-in-Usb-clause-goes_on c =
     ways-read _ (reader.Usb c.in-Usb.reader) _ _ _ (WriterStands c.args.writer.now) _ c.args.apart c.args.piece.moment
-        (Some c.args.piece) _ c.args.held.now.items _
+    (Some c.args.piece) _ c.args.held.now.items _
     c.in-Usb.is c.fill_from-in-Usb.ensures.goes_on

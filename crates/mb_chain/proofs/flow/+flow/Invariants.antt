@@ -1,7 +1,7 @@
 use Rattle.std.proofs.Common.{◌≡◌, map, length}
 use Rattle.mb_carrier.specs.Fill.{work, HasMoment}
-use Rattle.mb_carrier.specs.Port.{reader_spec, reader_offset, reader_owed, reader_moment, ReaderStands, writer_spec,
-    WriterStands}
+use Rattle.mb_carrier.specs.Port.{reader_spec, reader_offset, reader_owed, reader_moment, ReaderStands, writer_spec}
+use Rattle.mb_carrier.specs.Port.{WriterStands}
 use Rattle.mb_chain.specs.Row.{link_of, RowStands}
 use Rattle.mb_chain.proofs.FlowLemmas.{Driving}
 use Rattle.mb_chain.proofs.flow.+flow.Given as goal
@@ -24,7 +24,7 @@ invariant-buffers g l =
       driving : Driving (map link_of l.initial.behind) l.initial.hop l.initial.behind (reader_moment l.hop.reader)
           (ReaderStands l.hop.reader)
           (WriterStands l.hop.writer) (RowStands l.behind) l.hop.wrote
-              (reader_offset l.hop.reader) l.moment l.bytes l.left (λ given. K.took l.initial.out given l.out);
+          (reader_offset l.hop.reader) l.moment l.bytes l.left (λ given. K.took l.initial.out given l.out);
     }
 
 abbrev pub decreases-buffers : goal.decreases-buffers

@@ -5,8 +5,9 @@ use Rattle.mb_words.specs.Command.{Converting, Listing}
 use Rattle.mb_top.specs.Output.{HasNotes, HasNoNotes}
 use Rattle.mb_top.specs.Answer.{Says, code_of, read_all}
 use Rattle.mb_top.specs.declared.status.Status.TheVariants.{Done, Noted}
-use Rattle.mb_top.proofs.AnswerLemmas.{answered, went_through, ends-at_status, cut-at_end, reads_all, completes,
-    is_canonical, usage_only, is_meant, read_faults, write_fault, no_write_fault, wants_memory, noted_alone}
+use Rattle.mb_top.proofs.AnswerLemmas.{answered, went_through, ends-at_status, cut-at_end, reads_all, completes}
+use Rattle.mb_top.proofs.AnswerLemmas.{is_canonical, usage_only, is_meant, read_faults, write_fault, no_write_fault}
+use Rattle.mb_top.proofs.AnswerLemmas.{wants_memory, noted_alone}
 use Rattle.mb_top.proofs.entry.bridge_within.Goals as goal
 
 pub returns-clause-contents : goal.returns-clause-contents
@@ -14,36 +15,36 @@ returns-clause-contents g c = λ tells.
     let words = c.say.ensures.said tells in
     let text = c.as_slice.ensures.value ∙ c.text.ensures in
     answered _ _ _ _ _ _ _ _ _ _ c.run-status.result _ words.0 (omega (arith, c.code.ensures))
-        (c.run-status.ensures.ran tells) c.run-status.ensures.faults words.1
+    (c.run-status.ensures.ran tells) c.run-status.ensures.faults words.1
     (subst (Says _ words.0) text words.2) (λ all_said. words.3 (all_said ∙ sym text))
 
 pub returns-clause-headline : goal.returns-clause-headline
 returns-clause-headline g c = λ tally first between last tells m all.
     let t = went_through _ _ _ _ _ _ _ (Converting tally first between last) all m
-        (returns-clause-contents g c tells) in
+    (returns-clause-contents g c tells) in
     ap (den last) t.output_is ∙ through-means first between last _
 
 pub returns-clause-exact : goal.returns-clause-exact
 returns-clause-exact g c = λ tally first between last tells m all.
     (went_through _ _ _ _ _ _ _ (Converting tally first between last) all m
-        (returns-clause-contents g c tells)).output_is
+    (returns-clause-contents g c tells)).output_is
 
 pub returns-clause-clean : goal.returns-clause-clean
 returns-clause-clean g c = λ tally first between last tells m all.
     let t = went_through _ _ _ _ _ _ _ (Converting tally first between last) all m
-        (returns-clause-contents g c tells) in
+    (returns-clause-contents g c tells) in
     ap (notes_of last) t.output_is ∙ through-clean first between last _
 
 pub returns-clause-whole : goal.returns-clause-whole
 returns-clause-whole g c = λ tally first between last tells m all.
     let t = went_through _ _ _ _ _ _ _ (Converting tally first between last) all m
-        (returns-clause-contents g c tells) in
+    (returns-clause-contents g c tells) in
     ap (whole last) t.output_is ∙ through-whole first between last _
 
 pub returns-clause-canonical : goal.returns-clause-canonical
 returns-clause-canonical g c = λ tally first between last tells m all byte_line.
     let t = went_through _ _ _ _ _ _ _ (Converting tally first between last) all m
-        (returns-clause-contents g c tells) in
+    (returns-clause-contents g c tells) in
     is_canonical first between last _ _ byte_line t.output_is
 
 pub returns-clause-tally : goal.returns-clause-tally
@@ -86,15 +87,15 @@ returns-clause-reads_all g c = λ command s tells m reads unhindered short unwan
     ∙ reads_all _ _ _ _ _ _ c.run-status.result command m c.run-status.ensures.may unwanted
     (λ e. (read_faults _ _ _ _ _ c.run-status.result _ c.code.ensures c.say.ensures.reads c.run-status.ensures.faults).0 (c.code.ensures ∙ ap code_of e))
     (λ e. write_fault _ _ _ _ _ c.run-status.result _ c.code.ensures c.say.ensures.writes c.run-status.ensures.faults
-        (c.code.ensures ∙ ap code_of e))
+    (c.code.ensures ∙ ap code_of e))
     unhindered.reading unhindered.writing short (c.run-status.ensures.ran tells)
 
 pub returns-clause-complete : goal.returns-clause-complete
 returns-clause-complete g c = λ tally first between last tells m unhindered short is_whole.
     completes _ _ _ _ _ _ _ tally first between last
     (returns-clause-reads_all g c
-        (Converting tally first between last) first tells m refl unhindered short refl) m is_whole
-        (returns-clause-contents g c tells)
+    (Converting tally first between last) first tells m refl unhindered short refl) m is_whole
+    (returns-clause-contents g c tells)
 
 pub returns-clause-read_fault : goal.returns-clause-read_fault
 returns-clause-read_fault g c =
@@ -110,7 +111,7 @@ returns-clause-write_fault g c = write_fault _ _ _ _ _ c.run-status.result _ c.c
 pub returns-clause-write_fault_told : goal.returns-clause-write_fault_told
 returns-clause-write_fault_told g c =
     no_write_fault _ _ _ _ _ c.run-status.result _ c.code.ensures
-        (λ none. c.say.ensures.quiet (c.as_slice.ensures.value ∙ (c.text.ensures ∙ none))) c.run-status.ensures.faults
+    (λ none. c.say.ensures.quiet (c.as_slice.ensures.value ∙ (c.text.ensures ∙ none))) c.run-status.ensures.faults
 
 pub returns-clause-memory : goal.returns-clause-memory
 returns-clause-memory g c = wants_memory _ c.run-status.result _ c.code.ensures c.run-status.ensures.may

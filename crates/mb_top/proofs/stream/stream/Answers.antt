@@ -1,26 +1,26 @@
 use Rattle.std.proofs.Common.{◌∙◌, [], refl, arith}
 use Rattle.std.proofs.lemmas.Grind.{common_steps}
-use Rattle.mb_top.proofs.StreamLemmas.{read-piece, at-end, ran-end, ran-halted, fed-at, halted-at, piece-is,
-    piece-size, so_far-none, so_far-fed}
+use Rattle.mb_top.proofs.StreamLemmas.{read-piece, at-end, ran-end, ran-halted, fed-at, halted-at, piece-is, piece-size}
+use Rattle.mb_top.proofs.StreamLemmas.{so_far-none, so_far-fed}
 use Rattle.mb_top.proofs.stream.stream.Goals as goal
 
 pub returns-then-count-eq0-clause-ran : goal.returns-then-count-eq0-clause-ran
 returns-then-count-eq0-clause-ran g c = λ tells.
     let fed = c.pieces.invariant.fed in
     let e = at-end _ _ _ _ fed.0 _ c.in-Ok.count (fed.3 tells) (c.in-Ok.ensures.contents tells) c.if-count-eq0.true
-        (grind (arith, common_steps)) in
+    (grind (arith, common_steps)) in
     ran-end _ _ _ _ _ _ fed.0 _ c.pieces.invariant.command (omega (arith, fed.1)) e.0 e.1
-        (c.end.ensures.ran tells fed.0 fed.2)
+    (c.end.ensures.ran tells fed.0 fed.2)
 
 pub returns-in-Err-clause-ran : goal.returns-in-Err-clause-ran
 returns-in-Err-clause-ran g c = λ tells.
     let fed = c.pieces.invariant.fed in
     let halted = halted-at _ _ _ _ _ c.pieces.invariant.command c.in-Err.ensures.halted in
     let read = read-piece _ _ _ _ fed.0 _ _ c.in-Ok.count (fed.3 tells) (c.in-Ok.ensures.contents tells)
-        (piece-is _ _ c.in-Ok.count c.in-Ok.ensures.bound) in
+    (piece-is _ _ c.in-Ok.count c.in-Ok.ensures.bound) in
     ran-halted _ _ c.in-Ok.count _ _ _ fed.0 _ halted.given (piece-size _ _ c.in-Ok.count c.in-Ok.ensures.bound)
-        (grind (arith, common_steps, fed.1)) (grind (arith, common_steps)) read (halted.took_it.contents_are tells)
-        (halted.part fed.0 fed.2)
+    (grind (arith, common_steps, fed.1)) (grind (arith, common_steps)) read (halted.took_it.contents_are tells)
+    (halted.part fed.0 fed.2)
 
 pub pieces-init : goal.pieces-init
 pieces-init g c =

@@ -12,10 +12,12 @@ pub returns-in_err-spec-clause-only : goal.returns-in_err-spec-clause-only
 returns-in_err-spec-clause-only c =
     if_none _ _ c.from_residual.ensures
     (λ command m. let l = only_listing _ c.args.traced command c.requires m in none_some _ _ c.in_err-spec.was
-        (c.read.ensures.only l.spec (l.word _ c.word.ensures)))
+    (c.read.ensures.only l.spec (l.word _ c.word.ensures)))
 
 pub returns-clause-found : goal.returns-clause-found
 returns-clause-found c =
     subst (Means c.args.words.now) (sym c.listing_of.ensures.meaning)
-    (listing-means _ c.args.traced _ _ (grind (arith,
-        common_steps)) c.requires c.word.ensures c.in_ok-spec.ensures.found)
+    (listing-means _ c.args.traced _ _ (grind (
+      arith,
+      common_steps,
+    )) c.requires c.word.ensures c.in_ok-spec.ensures.found)

@@ -4,8 +4,8 @@ use Rattle.std.proofs.lemmas.List.{length-drop}
 use Rattle.mb_words.proofs.CommandLemmas.{as_many}
 use Rattle.mb_words.proofs.ReadLemmas.{read-none, read-more, read-all, read-never, if_none, drop-next}
 use Rattle.mb_words.proofs.words.read_specs.Goals as goal
-use Rattle.mb_words.proofs.words.read_specs.Goals.{then-len-start-via-then-len-start,
-    then-len-start-via-else-len-start+then-start-len}
+use Rattle.mb_words.proofs.words.read_specs.Goals.{then-len-start-via-then-len-start}
+use Rattle.mb_words.proofs.words.read_specs.Goals.{then-len-start-via-else-len-start+then-start-len}
 
 pub returns-then-len-start-clause-only : goal.returns-then-len-start-clause-only
 returns-then-len-start-clause-only c = λ specs some few are.
@@ -31,7 +31,7 @@ pub returns-in_err-spec-clause-only : goal.returns-in_err-spec-clause-only
 returns-in_err-spec-clause-only c =
     if_none _ _ c.from_residual.ensures
     (λ specs some few are. read-never _ _ _ _ specs _ c.words.invariant.read
-        (drop-next c.args.words.now c.words.at _ c.word.ensures) are c.in_err-spec.was c.read.ensures.only)
+    (drop-next c.args.words.now c.words.at _ c.word.ensures) are c.in_err-spec.was c.read.ensures.only)
 
 pub words-preserved : goal.words-preserved
 words-preserved c =

@@ -10,14 +10,14 @@ pub returns-clause-stands : goal.returns-clause-stands
 returns-clause-stands c =
     stands-by (λ (marks : List Sign). Stands c.args.self.now marks × (c.args.self.now.running ≡ true))
     (λ (marks : List Sign). Stands c.put.new.self marks × (c.put.new.self.running ≡ true)) c.args.moment
-        (signs_of_event c.args.ev)
+    (signs_of_event c.args.ev)
     (λ marks s. (c.put.ensures.stands marks s.0, c.put.ensures.running ∙ s.1))
 
 pub returns-clause-written : goal.returns-clause-written
 returns-clause-written c =
     written-by din_written (λ (marks : List Sign). Stands c.args.self.now marks ×
-        (c.args.self.now.running ≡ true)) c.args.moment (signs_of_event c.args.ev)
+    (c.args.self.now.running ≡ true)) c.args.moment (signs_of_event c.args.ev)
     c.args.out.now.items c.put.new.out.items
     (λ marks s. subst (λ (r : Bool). Appended c.args.out.now.items c.put.new.out.items (stream_written r marks)
-        (stream_written r (marks ++ signs_of_event c.args.ev))) s.1
+    (stream_written r (marks ++ signs_of_event c.args.ev))) s.1
     (c.put.ensures.written marks s.0))
