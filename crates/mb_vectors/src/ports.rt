@@ -1,6 +1,6 @@
 //! Readers and writers of any port, call by call.
 
-ghost use Rattle.std.specs.Prelude.{◌≡◌, ◌+◌, ◌<◌, ◌^◌, length};
+ghost use Rattle.std.specs.Prelude.{◌≡◌, ◌+◌, ◌≤◌, ◌^◌, length};
 ghost use Rattle.mb_carrier.specs.Port.{reader_offset};
 
 use arrayvec::ArrayVec;
@@ -50,7 +50,7 @@ fn put_answer(answer: Option<PortStep<'_>>, text: &mut Text) {
 }
 
 fn read_piece(reader: &mut PortReader, piece: &[u8], text: &mut Text)
-    requires early { reader_offset reader.old + length piece.now < 2 ^ 63 }
+    requires early { reader_offset reader.old + length piece.now ≤ 2 ^ 51 + 2 ^ 14 }
     ensures end { reader_offset reader.new ≡ reader_offset reader.old + length piece.now }
     ensures moment { reader.new.moment ≡ reader.old.moment }
 {
