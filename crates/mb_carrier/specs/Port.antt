@@ -56,6 +56,10 @@ ReaderStandsBy (reader.Usb r) bytes told = CableStands r bytes told
 abbrev pub ReaderStands : PortReader → List ℕ → List Known → Type 0
 ReaderStands r bytes told = ReaderStandsBy r.carrier bytes told
 
+-- they differ in the moment that is set, and in nothing else
+abbrev pub ReadsAlike : (was now : PortReader) → Type 0
+ReadsAlike was now = now.carrier ≡ was.carrier
+
 -- nothing is begun, running or open on the port
 abbrev pub ReaderRestsBy : ReaderOf → Type 0
 ReaderRestsBy (reader.Din r) = Rests r

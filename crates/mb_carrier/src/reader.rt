@@ -10,7 +10,7 @@ ghost use Rattle.mb_message.specs.Front.{IsFront};
 ghost use Rattle.mb_carrier.specs.Carrier.{known, end_told, last_byte_moment, end_moment, whole};
 ghost use Rattle.mb_carrier.specs.Hop.{ReaderGoes};
 ghost use Rattle.mb_carrier.specs.Port.{reader_spec, reader_offset, reader_owed, reader_moment, moment_set, beside};
-ghost use Rattle.mb_carrier.specs.Port.{is_partial, ReaderStands, ReaderRests, BrokenNext};
+ghost use Rattle.mb_carrier.specs.Port.{is_partial, ReaderStands, ReaderRests, BrokenNext, ReadsAlike};
 ghost use Rattle.mb_carrier.specs.Port.{reader_spec_by, reader_offset_by, reader_owed_by, reader_moment_by, beside_by};
 ghost use Rattle.mb_carrier.specs.Port.{is_partial_by, ReaderStandsBy, ReaderRestsBy, BrokenNextBy};
 ghost use Rattle.mb_carrier.specs.Step.{seen_in, seen_of, IsAt};
@@ -57,7 +57,7 @@ impl PortReader {
     pub fn set_moment(&mut self, moment: u64)
         requires { moment_set self.old ≤ moment }
         ensures moment { moment_set self.new ≡ moment }
-        ensures same { self.new.carrier ≡ self.old.carrier }
+        ensures same { ReadsAlike self.old self.new }
     {
         self.moment = moment;
     }
@@ -112,6 +112,9 @@ impl PortReader {
         ensures partial { is_partial self.new ≡ is_partial self.old }
         ensures moment { moment_set self.new ≡ moment_set self.old }
         ensures at { IfSome result (IsAt (reader_moment self.new (moment_set self.old))) }
+        ensures at_end { (bytes : List ℕ) → ReaderStands self.old bytes (known (reader_spec self.old) bytes) →
+            (moments : ℕ → ℕ) → last_byte_moment moments (length bytes) ≡ moment_set self.old →
+            end_moment (reader_spec self.old) moments bytes ≡ reader_moment self.new (moment_set self.old) }
         ensures rests { ReaderRests self.new }
         ensures told { (bytes : List ℕ) → ReaderStands self.old bytes (known (reader_spec self.old) bytes) →
             answer (seen_of result) ≡ end_told (reader_spec self.old) bytes }

@@ -77,7 +77,7 @@ impl PortWriter {
     }
 
     /// Appends what an event is written as, or as much of it as is known now. A run has at most `longest` bytes. The
-    /// moment, in milliseconds, is no earlier than the last; a carrier without a clock doesn't write it.
+    /// moment is in milliseconds; a carrier without a clock doesn't write it.
     pub fn put(&mut self, moment: u64, ev: Ev<'_>, out: &mut Buf)
         requires room { array_vec_len out.old + room_of (writer_spec self.old) ≤ 1024 }
         requires suits { suits_event (writer_in_sysex self.old) ev ≡ true }

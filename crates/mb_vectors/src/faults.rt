@@ -1,6 +1,7 @@
 //! Calls that fail, limits, and words that are no command.
 
 use crate::row::{Row, Setting, WHOLE, desk, run, said_at, words};
+use arrayvec::ArrayVec;
 use mb_top::bridge;
 use std::alloc::Global;
 use std::process::Abort;
@@ -142,6 +143,45 @@ fn the_limit_is_looked_at_before_the_next_read(rt: HostRuntime) {
         };
         run(&rt, rt.alloc(), &row, setting);
     }
+}
+
+/// As many clocks as one read gives.
+const CLOCK_READ: [u8; 512] = [0xf8; 512];
+
+/// The same as packets.
+fn clock_packets() -> ArrayVec<u8, 2048> {
+    let mut packets = ArrayVec::new();
+    'clocks: for _clock in 0..512 {
+        let _ = packets.try_extend_from_slice(&[0x0f, 0xf8, 0, 0]);
+    }
+    packets
+}
+
+/// Runs one read of clocks with a fault behind so many calls that succeed, the last of which finds the end.
+fn takes_calls(rt: &impl Abort, alloc: Global, words: &[&str], output: &[u8], calls: u64) {
+    for (fault, status) in [(calls, 3), (calls.saturating_add(1), 0)] {
+        let row = Row {
+            shows: "a buffer that is full",
+            words,
+            input: &CLOCK_READ,
+            output,
+            status,
+            text: said_at(status),
+        };
+        let setting = Setting {
+            fault: Some(fault),
+            ..WHOLE
+        };
+        run(rt, alloc, &row, setting);
+    }
+}
+
+/// A buffer of 1,024 is handed on where it has no room for one more event, and not before: one write of 512 bytes, and
+/// three of 2,048. Each run has two reads beside them.
+#[test]
+fn a_buffer_is_handed_on_where_it_is_full(rt: HostRuntime) {
+    takes_calls(&rt, rt.alloc(), TO_LINE, &CLOCK_READ, 3);
+    takes_calls(&rt, rt.alloc(), TO_CABLE_0, clock_packets().as_slice(), 5);
 }
 
 /// Words that are no command.

@@ -4,6 +4,8 @@
 #[cfg(test)]
 mod cables;
 #[cfg(test)]
+mod chain_calls;
+#[cfg(test)]
 mod chains;
 #[cfg(test)]
 mod conversion;
