@@ -1,5 +1,7 @@
 //! A chain, call by call.
 
+ghost use Rattle.mb_carrier.specs.Word.{AreSpecs};
+
 use mb_carrier::Spec;
 use mb_chain::{Chain, ChainFault};
 use mb_outside::MemoryOut;
@@ -9,7 +11,9 @@ const SPECS: &[Spec] = &[Spec::Din, Spec::Usb(3), Spec::Din];
 #[test]
 fn a_chain_hands_on_what_it_makes_of_each_piece(rt: HostRuntime) {
     let mut out = MemoryOut::new(rt.alloc(), 64).expect(&rt, "memory");
-    let mut chain = Chain::open(rt.alloc(), SPECS).expect(&rt, "three specs");
+    let Ok(mut chain) = Chain::open(rt.alloc(), SPECS) else {
+        panic!(rt; "three specs");
+    };
     chain
         .feed(&[0xf0, 0x01, 0xf8, 0x02], &mut out)
         .expect(&rt, "room");
@@ -37,7 +41,9 @@ fn a_chain_hands_on_what_it_makes_of_each_piece(rt: HostRuntime) {
 #[test]
 fn a_chain_that_is_refused_is_broken(rt: HostRuntime) {
     let mut out = MemoryOut::new(rt.alloc(), 2).expect(&rt, "memory");
-    let mut chain = Chain::open(rt.alloc(), SPECS).expect(&rt, "three specs");
+    let Ok(mut chain) = Chain::open(rt.alloc(), SPECS) else {
+        panic!(rt; "three specs");
+    };
     assert!(rt;
         chain.feed(&[0x90, 0x3c, 0x64], &mut out).is_err(),
         "three bytes in room for two"
@@ -46,14 +52,18 @@ fn a_chain_that_is_refused_is_broken(rt: HostRuntime) {
     assert!(rt; out.bytes() == [0x90, 0x3c].as_slice(), "a front was taken");
 }
 
-fn is_few(rt: &HostRuntime, specs: &[Spec]) -> bool {
+fn is_few(rt: &HostRuntime, specs: &[Spec]) -> bool
+    requires { AreSpecs specs.now }
+{
     match Chain::open(rt.alloc(), specs) {
         Err(ChainFault::TooFew) => true,
         _ => false,
     }
 }
 
-fn is_many(rt: &HostRuntime, specs: &[Spec]) -> bool {
+fn is_many(rt: &HostRuntime, specs: &[Spec]) -> bool
+    requires { AreSpecs specs.now }
+{
     match Chain::open(rt.alloc(), specs) {
         Err(ChainFault::TooMany) => true,
         _ => false,

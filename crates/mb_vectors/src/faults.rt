@@ -157,23 +157,31 @@ fn clock_packets() -> ArrayVec<u8, 2048> {
     packets
 }
 
-/// Runs one read of clocks with a fault behind so many calls that succeed, the last of which finds the end.
+/// Runs one read of clocks where so many calls are made: the last of them may fail, and one more never comes.
 fn takes_calls(rt: &impl Abort, alloc: Global, words: &[&str], output: &[u8], calls: u64) {
-    for (fault, status) in [(calls, 3), (calls.saturating_add(1), 0)] {
-        let row = Row {
-            shows: "a buffer that is full",
-            words,
-            input: &CLOCK_READ,
-            output,
-            status,
-            text: said_at(status),
-        };
-        let setting = Setting {
-            fault: Some(fault),
-            ..WHOLE
-        };
-        run(rt, alloc, &row, setting);
-    }
+    let row = Row {
+        shows: "a buffer that is full",
+        words,
+        input: &CLOCK_READ,
+        output,
+        status: 0,
+        text: "",
+    };
+    let never = Setting {
+        fault: Some(calls.saturating_add(1)),
+        ..WHOLE
+    };
+    run(rt, alloc, &row, never);
+    let last = Setting {
+        fault: Some(calls),
+        ..WHOLE
+    };
+    let stopped = Row {
+        status: 3,
+        text: said_at(3),
+        ..row
+    };
+    run(rt, alloc, &stopped, last);
 }
 
 /// A buffer of 1,024 is handed on where it has no room for one more event, and not before: one write of 512 bytes, and
