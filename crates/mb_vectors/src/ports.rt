@@ -122,16 +122,18 @@ fn writes(writer: &mut PortWriter, at_once: &[u8], whole: &[u8]) -> bool {
     !writer.in_sysex() && out.as_slice() == whole
 }
 
-const WRITTEN: &[(&str, &[u8], &[u8])] = &[
-    ("din", &[0xf0, 0x01], &[0xf0, 0x01]),
-    ("usb:2", &[], &[0x2f, 0xf0, 0, 0, 0x2f, 0x01, 0, 0]),
+/// A port, the room that its writer asks for, and what a SysEx of one byte becomes at once, and with the finish.
+const WRITTEN: &[(&str, usize, &[u8], &[u8])] = &[
+    ("din", 16, &[0xf0, 0x01], &[0xf0, 0x01]),
+    ("usb:2", 24, &[], &[0x2f, 0xf0, 0, 0, 0x2f, 0x01, 0, 0]),
 ];
 
 #[test]
 fn a_port_is_written(rt: HostRuntime) {
-    for (word, at_once, whole) in WRITTEN {
+    for (word, room, at_once, whole) in WRITTEN {
         let spec = Spec::read(word).expect(&rt, "a port");
         let mut writer = PortWriter::new(rt.alloc(), spec).expect(&rt, "memory");
+        assert!(rt; writer.room() == *room, "{word}: room");
         assert!(rt; writes(&mut writer, at_once, whole), "{word}");
     }
 }
