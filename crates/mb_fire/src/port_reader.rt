@@ -71,7 +71,7 @@ impl FirePortReader {
         ensures longest { IfSome result (IsLongest (take (left_of self.new.packet.under) input.new.now)) }
         ensures none { IfNone result (input.new.now ≡ []) }
 
-        // What a status breaks is told of before the status is taken: it still stands in the input, and nothing is behind_length,
+        // What a status breaks is told of before the status is taken: it still stands in the input, and nothing is begun,
         // running or open on the port.
         ensures before { breaks (answer result) ≡ true → StatusNext input.new.now × Rests self.new.reader }
 
@@ -81,7 +81,7 @@ impl FirePortReader {
         read_port(self.port, &mut self.packet, &mut self.din, input)
     }
 
-    /// What only the end of the recording makes known: a message that was behind_length and not finished, or an open SysEx. The
+    /// What only the end of the recording makes known: a message that was begun and not finished, or an open SysEx. The
     /// port then stands as a fresh one does.
     pub fn finish(&mut self) -> Option<Seen<'static>>
         ensures port { self.new.port ≡ self.old.port }
