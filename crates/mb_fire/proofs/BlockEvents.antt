@@ -1,20 +1,18 @@
 -- The blocks of a packet, byte by byte.
-use Rattle.std.proofs.Common.{◌≡◌, ℕ, zero, suc, ◌+◌, ◌-◌, ◌*◌, ◌/◌, ◌%◌, ◌<◌, ◌≤◌, inl, inr, Bool, true, false, ◌&&◌, ◌==◌, nat_lt, if◌then◌else◌, Option, List, [], ◌∷◌, ◌++◌, length, map, flat_map, take, drop, refl, sym, ◌∙◌, ap, ap₂, subst, arith, append_assoc, append-nil}
+use Rattle.std.proofs.Common.{◌≡◌, ℕ, zero, suc, ◌+◌, ◌-◌, ◌*◌, ◌%◌, ◌<◌, ◌≤◌, inl, inr, Bool, true, false, ◌&&◌, ◌==◌, nat_lt, if◌then◌else◌, Option, List, [], ◌∷◌, ◌++◌, length, map, flat_map, take, drop, refl, sym, ◌∙◌, ap, ap₂, arith, append-nil}
 use Rattle.std.proofs.lemmas.Bool.{eq-eqb, cases_lt}
 use Rattle.std.proofs.lemmas.Bool.Decides.{nat_tests}
-use Rattle.std.proofs.lemmas.List.{take-append-drop, length-take, length-drop}
+use Rattle.std.proofs.lemmas.List.{take-append-drop}
 use Rattle.mb_message.specs.declared.note.NoteKind.TheVariants.{NoMidiQuadlet}
-use Rattle.mb_stream.specs.Told.{Known}
 use Rattle.mb_ports.specs.Events.{Event, Remarked}
 use Rattle.mb_ports.specs.Machine.{remarked, events_from, under_from}
 use Rattle.mb_ports.proofs.MachineLaw.{events_from-append, under_from-append}
-use Rattle.mb_fire.specs.declared.under.Under.{Under}
 use Rattle.mb_fire.specs.declared.place.Place.TheVariants.{Between, Within, Passing}
-use Rattle.mb_fire.specs.Packets.{Block, blocks_from, Quadlet, quadlets_from, is_midi, midi_only, midi_quadlets}
+use Rattle.mb_fire.specs.Packets.{Block, blocks_from, Quadlet, quadlets_from, is_midi, midi_only}
 use Rattle.mb_fire.specs.Reading.{without, block_note}
 use Rattle.mb_fire.specs.Under.{passed}
 use Rattle.mb_fire.specs.Ports.{fire}
-use Rattle.mb_fire.proofs.QuadletEvents.{U, S, Next, Goes, goes-join, quadlet_events, midi_behind, end_note, quadlets-open, quadlets-whole, less-one}
+use Rattle.mb_fire.proofs.QuadletEvents.{U, S, Next, Goes, quadlet_events, midi_behind, end_note, quadlets-open, quadlets-whole, less-one}
 
 pub take-all : (l : ℕ) (xs : List ℕ) → length xs ≤ l → take l xs ≡ xs
 take-all zero [] h = refl

@@ -1,24 +1,23 @@
 -- The events of a recording, byte by byte, are those of its frames.
-use Rattle.std.proofs.Common.{◌≡◌, ℕ, zero, suc, ◌+◌, ◌-◌, ◌*◌, ◌/◌, ◌%◌, ◌<◌, ◌≤◌, inl, inr, Bool, true, false, not, ◌&&◌, ◌==◌, nat_lt, if◌then◌else◌, Option, Some, None, List, [], ◌∷◌, ◌++◌, length, map, flat_map, take, drop, refl, sym, ◌∙◌, ap, ap₂, subst, arith, append_assoc, append-nil}
-use Rattle.std.proofs.lemmas.Bool.{cases_lt, lt-ltb, ltb-true, ltb-false}
+use Rattle.std.proofs.Common.{◌≡◌, ℕ, zero, suc, ◌+◌, ◌-◌, ◌*◌, ◌/◌, ◌%◌, ◌<◌, ◌≤◌, inl, inr, Bool, true, false, not, ◌&&◌, ◌==◌, nat_lt, if◌then◌else◌, Option, Some, None, List, [], ◌∷◌, ◌++◌, length, map, flat_map, take, drop, refl, sym, ◌∙◌, ap, ap₂, arith, append_assoc}
+use Rattle.std.proofs.lemmas.Bool.{cases_lt, ltb-true, ltb-false}
 use Rattle.std.proofs.lemmas.Bool.Decides.{nat_tests}
-use Rattle.std.proofs.lemmas.List.{take-append-drop, length-take}
+use Rattle.std.proofs.lemmas.List.{take-append-drop}
 use Rattle.std.proofs.Math.Nat.{div-add-mod}
 use Rattle.mb_message.specs.declared.note.NoteKind.TheVariants.{BadCip, ZeroDbs, Ragged, DbcGap}
 use Rattle.mb_stream.specs.Told.{Known}
 use Rattle.mb_ports.specs.Events.{Event, Remarked}
 use Rattle.mb_ports.specs.Machine.{remarked, events_from, events, under_from}
-use Rattle.mb_ports.proofs.MachineLaw.{events_from-append, under_from-append}
-use Rattle.mb_fire.specs.declared.under.Under.{Under}
+use Rattle.mb_ports.proofs.MachineLaw.{events_from-append}
 use Rattle.mb_fire.specs.declared.place.BegunHeader.{BegunHeader}
 use Rattle.mb_fire.specs.declared.place.Place.{Place}
-use Rattle.mb_fire.specs.declared.place.Place.TheVariants.{Between, High, Heading, Within}
-use Rattle.mb_fire.specs.Packets.{Frame, frames_from, frames, Header, header_of, is_cip, has_blocks, block_size, block_count, Block, blocks_from, blocks_of}
-use Rattle.mb_fire.specs.Reading.{noted, known_notes, gap_note, ragged_note, short_note, expected_by, expected}
+use Rattle.mb_fire.specs.declared.place.Place.TheVariants.{Between, Heading, Within}
+use Rattle.mb_fire.specs.Packets.{Frame, frames_from, frames, Header, header_of, is_cip, has_blocks, blocks_from, blocks_of}
+use Rattle.mb_fire.specs.Reading.{noted, known_notes, gap_note, short_note, expected_by, expected}
 use Rattle.mb_fire.specs.Under.{passed, header_in, behind_length, behind_header, first_block, expected_behind, notes_at_header, is_gap}
 use Rattle.mb_fire.specs.Ports.{fire}
 use Rattle.mb_fire.proofs.QuadletEvents.{U, S, less-one}
-use Rattle.mb_fire.proofs.BlockEvents.{take-all, drop-all, length-taken, length-dropped, pass-events, pass-behind, block_events, bytes_left, blocks-events, blocks-behind}
+use Rattle.mb_fire.proofs.BlockEvents.{drop-all, length-taken, length-dropped, pass-events, pass-behind, block_events, bytes_left, blocks-events, blocks-behind}
 
 -- Events of the cuts.
 

@@ -1,13 +1,11 @@
 -- What is given to a writer of eight ports, and what it sends.
-use Rattle.std.proofs.Common.{◌≡◌, ℕ, suc, ◌+◌, ◌*◌, ◌/◌, ◌%◌, ◌<◌, Bool, true, false, List, [], ◌∷◌, ◌++◌, length, map, drop, refl, ap, sym, subst, ◌∙◌, arith, append_assoc}
+use Rattle.std.proofs.Common.{◌≡◌, ℕ, suc, ◌+◌, ◌*◌, ◌/◌, ◌%◌, ◌<◌, Bool, true, false, List, [], ◌∷◌, ◌++◌, length, drop, refl, ap, sym, subst, ◌∙◌, arith, append_assoc}
 use Rattle.std.specs.Prelude.{if◌then◌else◌, ◌==◌, flat_map, slice_set, ◌≢◌}
 use Rattle.std.proofs.lemmas.Bool.Decides.{nat_tests}
 use Rattle.std.proofs.lemmas.List.{get_or-set_same, get_or-set_other}
-use Rattle.mb_message.specs.Signs.{Sign, ByteSign, signs_of_event, suits_event, open_behind, IsShortRun}
+use Rattle.mb_message.specs.Signs.{Sign, signs_of_event, suits_event, open_behind, IsShortRun}
 use Rattle.mb_message.specs.declared.event.Ev.{Ev}
-use Rattle.mb_message.specs.declared.event.Ev.TheVariants as ev
 use Rattle.mb_stream.specs.Spelling.{spelled, full_bytes}
-use Rattle.mb_stream.specs.Standing.{is_open}
 use Rattle.mb_stream.proofs.StandingLemmas.{joined, is_open-append, open_from}
 use Rattle.mb_stream.proofs.EventLemmas.{open_from-event}
 use Rattle.mb_fire.specs.Written.{block, packet, cip_header}

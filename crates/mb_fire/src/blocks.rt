@@ -1,7 +1,9 @@
 //! The data blocks of a packet, byte by byte (IEC 61883-6, "AM824 data" and "MIDI conformant data"), and what is remarked of them.
 
 ghost use Rattle.std.specs.Prelude.{◌≡◌, ◌<◌, ◌^◌};
-ghost use Rattle.mb_fire.specs.Under.{block_after, label_after, one_less, behind_quadlet, behind_block, due_by, notes_in_block};
+ghost use Rattle.mb_fire.specs.Under.{block_after, label_after, one_less, behind_quadlet, behind_block};
+ghost use Rattle.mb_fire.specs.Under.{due_by, notes_in_block, notes_behind};
+ghost use Rattle.mb_fire.specs.Passed.{carries, is_passed};
 
 use crate::due::Due;
 use crate::header::before_passed;
@@ -20,7 +22,8 @@ pub fn behind_byte(place: BlockPlace, byte: u8) -> Place
 }
 
 /// The place behind a label. A MIDI conformant quadlet is labelled 80 to 83, by the number of its bytes.
-fn behind_label(place: BlockPlace, label: u8) -> BlockPlace
+#[inline(always)]
+pub fn behind_label(place: BlockPlace, label: u8) -> BlockPlace
     ensures { result ≡ label_after place label }
 {
     let mut next = place;
@@ -48,7 +51,8 @@ fn one_less(place: BlockPlace) -> BlockPlace
 }
 
 /// The place behind a quadlet.
-fn behind_quadlet(place: BlockPlace) -> Place
+#[inline(always)]
+pub fn behind_quadlet(place: BlockPlace) -> Place
     ensures { result ≡ behind_quadlet place }
 {
     if place.quadlets == 0 {
@@ -62,6 +66,7 @@ fn behind_quadlet(place: BlockPlace) -> Place
 }
 
 /// The place behind a block.
+#[inline(always)]
 fn behind_block(place: BlockPlace) -> Place
     ensures { result ≡ behind_block place }
 {
@@ -85,12 +90,39 @@ pub fn due_in_block(place: BlockPlace, offset: u64) -> Due
     requires early { offset < 2 ^ 63 }
     ensures { result ≡ due_by (notes_in_block place offset) }
 {
-    if u16::from(place.left) + u16::from(place.skip) == 1 && place.quadlets == 0 && place.midi == 0
-    {
+    if u16::from(place.left) + u16::from(place.skip) == 1 {
+        return due_behind(place, offset);
+    }
+    Due::Nothing
+}
+
+/// The same where it is known that the byte is a quadlet's last.
+#[inline(always)]
+pub fn due_behind(place: BlockPlace, offset: u64) -> Due
+    requires early { offset < 2 ^ 63 }
+    ensures { result ≡ due_by (notes_behind place offset) }
+{
+    if place.quadlets == 0 && place.midi == 0 {
         return Due::One(Note {
             kind: NoteKind::NoMidiQuadlet,
             at: (offset + 1).saturating_sub(4 * u64::from(place.dbs)),
         });
     }
     Due::Nothing
+}
+
+/// Whether a quadlet begins here, and with this label carries nothing on a port.
+#[inline(always)]
+pub fn is_passed(own: u8, place: BlockPlace, label: u8) -> bool
+    ensures { result ≡ is_passed own place label }
+{
+    place.left == 0 && place.skip == 0 && !carries(own, place, label)
+}
+
+/// Whether a quadlet that begins here carries a byte on a port.
+#[inline(always)]
+fn carries(own: u8, place: BlockPlace, label: u8) -> bool
+    ensures { result ≡ carries own place label }
+{
+    0x81 <= label && label <= 0x83 && place.midi < 8 && 8 * place.midi + place.count % 8 == own
 }

@@ -14,6 +14,7 @@ ghost use Rattle.mb_fire.specs.Ports.{port_so_far, PortHolds, PortStands, PortTe
 ghost use Rattle.mb_fire.specs.State.{owed_alone, owed_one, IsBehind};
 
 use crate::carry::carry;
+use crate::passed::pass_whole;
 use crate::under::{Packet, is_of, partial};
 use mb_din::DinReader;
 use mb_message::Seen;
@@ -125,6 +126,10 @@ fn read_port<'a>(
     'bytes: loop {
         if let Some(note) = packet.take_due() {
             return Some(Seen::Note(note));
+        }
+        if let Some(left) = pass_whole(own, packet, *input) {
+            *input = left;
+            continue 'bytes;
         }
         let Some((byte, rest)) = input.split_first() else {
             return None;

@@ -1,4 +1,4 @@
-use Rattle.std.proofs.Common.{◌++◌, ◌∙◌, ap, ap₂, sym}
+use Rattle.std.proofs.Common.{◌++◌, ◌∙◌, ap₂, sym}
 use Rattle.mb_fire.specs.Running.{fire_from, dbc_behind}
 use Rattle.mb_fire.specs.PortWriter.{Writer, longest}
 use Rattle.mb_fire.proofs.WriterLemmas.{run-open}
