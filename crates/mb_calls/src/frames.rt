@@ -1,25 +1,42 @@
-//! Frames, cut at every place, written and read byte by byte.
+//! Frames, read byte by byte, and written.
+
+ghost use Rattle.std.specs.Prelude.{◌≡◌, false};
+ghost use Rattle.mb_frames.specs.Reading.{is_at_end};
 
 use crate::text::{Text, put_mark};
-use mb_frames::{Frames, Part, put_frame};
+use mb_frames::{Frames, put_frame};
 use mb_message::{Buf, Mark};
 
-/// Appends the lines of a part, as of marks: of a frame's start its length and `open`, of content its bytes one by one.
-fn put_part(part: Part<'_>, text: &mut Text) {
-    match part {
-        Part::Begin(length) => put_mark(u64::from(length), Mark::Open, text),
-        Part::Bytes(bytes) => {
-            for byte in bytes {
-                put_mark(0, Mark::Byte(*byte), text);
-            }
-        }
-        Part::End => put_mark(0, Mark::End, text),
+/// Appends the lines of what a byte tells, as of marks: of a length that it ends the number and `open`, of content the byte.
+fn take_byte(frames: &mut Frames, byte: u8, text: &mut Text)
+    requires { is_at_end frames.old ≡ false }
+{
+    if frames.room() > 0 {
+        frames.pass(1);
+        put_mark(0, Mark::Byte(byte), text);
+        return;
+    }
+    if let Some(length) = frames.length(byte) {
+        put_mark(u64::from(length), Mark::Open, text);
     }
 }
 
-fn read_piece(frames: &mut Frames, mut piece: &[u8], text: &mut Text) {
-    while let Some(part) = frames.next(&mut piece) {
-        put_part(part, text);
+/// Appends the line of a frame's end, if one is to be told.
+fn take_end(frames: &mut Frames, text: &mut Text)
+    ensures { is_at_end frames.new ≡ false }
+{
+    if frames.at_end() {
+        frames.leave();
+        put_mark(0, Mark::End, text);
+    }
+}
+
+fn read(bytes: &[u8], frames: &mut Frames, text: &mut Text)
+    requires { is_at_end frames.old ≡ false }
+{
+    for byte in bytes {
+        take_byte(frames, *byte, text);
+        take_end(frames, text);
     }
 }
 
@@ -42,53 +59,13 @@ const PARTS: &[(&[u8], &str, bool)] = &[
 ];
 
 #[test]
-fn parts_of_lists_cut_at_every_place(rt: HostRuntime) {
+fn parts_of_lists(rt: HostRuntime) {
     for (bytes, told, partial) in PARTS {
-        for cut in 0..=bytes.len() {
-            let mut frames = Frames::new();
-            let mut text = Text::new();
-            read_piece(&mut frames, &bytes[..cut], &mut text);
-            read_piece(&mut frames, &bytes[cut..], &mut text);
-            assert!(rt; text.as_slice() == told.as_bytes(), "{told} at {cut}");
-            assert!(rt; frames.partial() == *partial, "{told} at {cut}");
-        }
-    }
-}
-
-/// What was answered, content by its length.
-#[derive(Clone, Copy, PartialEq, Eq)]
-enum Shape {
-    Begin(u16),
-    Content(usize),
-    End,
-    Nothing,
-}
-
-fn shape_of(part: Option<Part<'_>>) -> Shape {
-    match part {
-        Some(Part::Begin(length)) => Shape::Begin(length),
-        Some(Part::Bytes(content)) => Shape::Content(content.len()),
-        Some(Part::End) => Shape::End,
-        None => Shape::Nothing,
-    }
-}
-
-/// The shapes of a frame of 65,535 bytes, and whether it is partial then.
-const LONGEST: &[(Shape, bool)] = &[
-    (Shape::Begin(65_535), true),
-    (Shape::Content(65_535), false),
-    (Shape::End, false),
-    (Shape::Nothing, false),
-];
-
-#[test]
-fn the_longest_frame(rt: HostRuntime) {
-    let bytes = [0xff; 65_537];
-    let mut piece = bytes.as_slice();
-    let mut frames = Frames::new();
-    for (shape, partial) in LONGEST {
-        assert!(rt; shape_of(frames.next(&mut piece)) == *shape);
-        assert!(rt; frames.partial() == *partial);
+        let mut frames = Frames::new();
+        let mut text = Text::new();
+        read(bytes, &mut frames, &mut text);
+        assert!(rt; text.as_slice() == told.as_bytes(), "{told}");
+        assert!(rt; frames.partial() == *partial, "{told}");
     }
 }
 
@@ -102,12 +79,15 @@ fn written_frames(rt: HostRuntime) {
 }
 
 #[test]
-fn a_frame_by_single_bytes(rt: HostRuntime) {
+fn the_longest_frame(rt: HostRuntime) {
     let mut frames = Frames::new();
-    assert!(rt; frames.length(1).is_none());
-    assert!(rt; frames.length(2) == Some(258) && frames.room() == 258);
-    frames.pass(258);
-    assert!(rt; frames.at_end() && frames.room() == 0);
+    assert!(rt; frames.length(0xff).is_none() && frames.partial());
+    assert!(rt; frames.room() == 0 && !frames.at_end());
+    assert!(rt; frames.length(0xff) == Some(65_535) && frames.room() == 65_535);
+    frames.pass(512);
+    assert!(rt; frames.room() == 65_023 && frames.partial());
+    frames.pass(65_023);
+    assert!(rt; frames.at_end() && frames.room() == 0 && !frames.partial());
     frames.leave();
-    assert!(rt; !frames.at_end());
+    assert!(rt; !frames.at_end() && !frames.partial());
 }

@@ -1,6 +1,7 @@
 //! The readers of all cables and of one.
 
 ghost use Rattle.std.specs.Prelude.{◌≡◌, ◌+◌, ◌<◌, ◌^◌, length};
+ghost use Rattle.mb_usb.specs.State.{usb_offset, cable_offset};
 
 use crate::text::{Runs, Text, put_answer, put_mark, put_note, put_seen};
 use mb_message::{Buf, Mark, PortSeen, Short};
@@ -8,8 +9,8 @@ use mb_usb::{CableReader, UsbReader};
 
 /// Appends what a piece tells, up to the answer of nothing.
 fn read_piece(reader: &mut UsbReader, piece: &[u8], runs: Runs, text: &mut Text)
-    requires { reader.old.packet.offset + length piece.now < 2 ^ 63 }
-    ensures { reader.new.packet.offset ≡ reader.old.packet.offset + length piece.now }
+    requires { usb_offset reader.old + length piece.now < 2 ^ 63 }
+    ensures { usb_offset reader.new ≡ usb_offset reader.old + length piece.now }
 {
     let mut rest = piece;
     'told: while let Some(seen) = reader.next(&mut rest) {
@@ -110,7 +111,7 @@ fn an_unfinished_packet_is_finished_on_its_cable(rt: HostRuntime) {
 }
 
 fn read_cable(reader: &mut CableReader, piece: &[u8], text: &mut Text)
-    requires { reader.old.packet.offset + length piece.now < 2 ^ 63 }
+    requires { cable_offset reader.old + length piece.now < 2 ^ 63 }
 {
     let mut rest = piece;
     'told: while let Some(seen) = reader.next(&mut rest) {
@@ -133,6 +134,16 @@ fn one_cable_and_the_notes_of_all_packets(rt: HostRuntime) {
 
 const OF_ONE_CABLE: &str =
     "note 0 reserved-cin\nnote 4 cin-mismatch\nnote 9 stray-data\nnote 8 cin-mismatch\n0 short 90 3D 64\nnone\n";
+
+#[test]
+fn the_end_of_a_cable_is_told_once(rt: HostRuntime) {
+    let mut reader = CableReader::new(2);
+    let mut text = Text::new();
+    read_cable(&mut reader, &[0x24, 0xf0, 1, 2], &mut text);
+    put_answer(0, reader.finish(), &mut text);
+    put_answer(0, reader.finish(), &mut text);
+    assert!(rt; text.as_slice() == b"0 open\n0 data 01\n0 data 02\n0 abort\nnone\n".as_slice());
+}
 
 fn put(packet: [u8; 4], bytes: &mut Buf) {
     let _ = bytes.try_extend_from_slice(&packet);

@@ -4,7 +4,7 @@ use Rattle.std.proofs.lemmas.List.{append-nil, map-append, take-append-drop}
 use Rattle.std.specs.Prelude.{Result, OnOk, OnErr}
 use Rattle.mb_message.specs.Signs.{Sign, ByteSign}
 use Rattle.mb_stream.specs.Standing.{suited}
-use Rattle.mb_outside.specs.Taking.{IsFront}
+use Rattle.mb_message.specs.Front.{IsFront}
 use Rattle.mb_carrier.specs.Carrier.{live}
 use Rattle.mb_carrier.specs.Hop.{Puts, Gave, Halted}
 use Rattle.mb_carrier.specs.declared.spec.Spec.{Spec}

@@ -2,8 +2,9 @@
 use Rattle.std.proofs.Common.{◌≡◌, ℕ, true, List, [], ◌++◌, refl, sym, ◌∙◌, ap, append_assoc}
 use Rattle.mb_message.specs.Signs.{Sign}
 use Rattle.mb_stream.specs.Standing.{suited}
-use Rattle.mb_outside.specs.Taking.{IsFront}
-use Rattle.mb_carrier.specs.Carrier.{known, known_signs, end_told, told_signs, marks_of, marks_so_far, live, written}
+use Rattle.mb_message.specs.Front.{IsFront}
+use Rattle.mb_carrier.specs.Carrier.{known, known_signs, end_told, marks_of, marks_so_far, live, written}
+use Rattle.mb_stream.specs.Reading.{told_signs}
 use Rattle.mb_carrier.specs.DinLaws as din
 use Rattle.mb_carrier.specs.UsbLaws as usb
 use Rattle.mb_carrier.specs.declared.spec.Spec.{Spec}

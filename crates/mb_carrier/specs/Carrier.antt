@@ -9,14 +9,14 @@
 --   whole s bytes          the recording doesn't stop inside a packet
 --   written s ms           what a list of marks is written as
 --   live s ms              the same without what the writer's finish adds
-use Rattle.std.specs.Prelude.{ℕ, Bool, true, List, map, flat_map}
+use Rattle.std.specs.Prelude.{ℕ, Bool, true, List, map}
 use Rattle.mb_message.specs.Signs.{Sign}
 use Rattle.mb_stream.specs.Payload.{Entry}
 use Rattle.mb_stream.specs.Groups.{last_of}
 use Rattle.mb_stream.specs.Told.{Known, Told, at_end}
 use Rattle.mb_stream.specs.Order.{in_order}
 use Rattle.mb_stream.specs.Reading as stream
-use Rattle.mb_stream.specs.Reading.{Part, Remark, part_of, sign_in, signs_of}
+use Rattle.mb_stream.specs.Reading.{Part, Remark, part_of, signs_of}
 use Rattle.mb_stream.specs.Denotation.{Denotation, denotation}
 use Rattle.mb_din.specs.Recording.{din_payload, din_reading}
 use Rattle.mb_din.specs.Written.{din_written}
@@ -35,10 +35,6 @@ known (Usb cable) bytes = in_order (λ k. k) (usb_told cable bytes)
 
 abbrev pub end_told : Spec → List ℕ → List Told
 end_told s bytes = at_end (last_of (payload_of s bytes))
-
--- the marks among what is told
-abbrev pub told_signs : List Told → List Sign
-told_signs ts = flat_map sign_in ts
 
 -- the marks among what is known
 abbrev pub known_signs : List Known → List Sign

@@ -8,7 +8,6 @@ use Rattle.mb_din.specs.State as din_state
 use Rattle.mb_din.specs.State.{Rests}
 use Rattle.mb_usb.specs.Cables.{CableStands}
 use Rattle.mb_usb.specs.State as usb_state
-use Rattle.mb_usb.specs.Under.{left_of, taken_of}
 use Rattle.mb_carrier.specs.Line.{LineStands}
 use Rattle.mb_carrier.specs.declared.spec.Spec.{Spec}
 use Rattle.mb_carrier.specs.declared.spec.Spec.TheVariants as spec
@@ -66,7 +65,7 @@ ReaderRests r = ReaderRestsBy r.carrier
 -- how many bytes it took
 abbrev pub reader_offset_by : ReaderOf → ℕ
 reader_offset_by (reader.Din r) = r.offset
-reader_offset_by (reader.Usb r) = r.packet.offset
+reader_offset_by (reader.Usb r) = usb_state.cable_offset r
 
 abbrev pub reader_offset : PortReader → ℕ
 reader_offset r = reader_offset_by r.carrier
@@ -74,7 +73,7 @@ reader_offset r = reader_offset_by r.carrier
 -- whether something that takes no byte may be told next: 1, else 0
 abbrev pub reader_owed_by : ReaderOf → ℕ
 reader_owed_by (reader.Din r) = din_state.owed r
-reader_owed_by (reader.Usb r) = usb_state.owed_one r
+reader_owed_by (reader.Usb r) = usb_state.cable_owed r
 
 abbrev pub reader_owed : PortReader → ℕ
 reader_owed r = reader_owed_by r.carrier
@@ -82,7 +81,7 @@ reader_owed r = reader_owed_by r.carrier
 -- the bytes of the port that stand side by side at the front of an input, as far as is known
 abbrev pub beside_by : ReaderOf → List ℕ → List ℕ
 beside_by (reader.Din r) input = input
-beside_by (reader.Usb r) input = take (left_of r.packet.under) input
+beside_by (reader.Usb r) input = take (usb_state.cable_to_come r) input
 
 abbrev pub beside : PortReader → List ℕ → List ℕ
 beside r input = beside_by r.carrier input
@@ -90,7 +89,7 @@ beside r input = beside_by r.carrier input
 -- the bytes that it took stop inside a packet
 abbrev pub is_partial_by : ReaderOf → Bool
 is_partial_by (reader.Din r) = false
-is_partial_by (reader.Usb r) = not (taken_of r.packet.under == 0)
+is_partial_by (reader.Usb r) = not (usb_state.cable_taken r == 0)
 
 abbrev pub is_partial : PortReader → Bool
 is_partial r = is_partial_by r.carrier

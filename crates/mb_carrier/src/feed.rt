@@ -2,12 +2,12 @@
 
 ghost use Rattle.std.specs.Prelude.{◌≡◌, ℕ, ◌+◌, ◌*◌, ◌^◌, ◌<◌, ◌≤◌, true, List, [], ◌∷◌, ◌++◌, map, length, OnOk, OnErr};
 ghost use Rattle.arrayvec.specs.ArrayVec.{array_vec_len};
-ghost use Rattle.mb_message.specs.Signs.{Sign, ByteSign, suits_event, suits_sign, signs_of_event};
-ghost use Rattle.mb_message.specs.Signs.{IsShortRun, open_behind};
+ghost use Rattle.mb_message.specs.Signs.{Sign, ByteSign, suits_event, suits_sign, signs_of_event, IsShortRun, open_behind};
 ghost use Rattle.mb_outside.specs.Cause.{HasCause};
 ghost use Rattle.mb_outside.specs.Taking.{TookFront};
-ghost use Rattle.mb_carrier.specs.Carrier.{live, written, told_signs};
-ghost use Rattle.mb_din.specs.Turn.{answer};
+ghost use Rattle.mb_carrier.specs.Carrier.{live, written};
+ghost use Rattle.mb_stream.specs.Reading.{told_signs};
+ghost use Rattle.mb_stream.specs.ReaderLaw.{answer};
 ghost use Rattle.mb_carrier.specs.Hop.{Gave, Halted, Fed, FedHalted, Ended, EndHalted, HopStands, seen_signs, MayCome};
 
 use crate::{EventReader, EventWriter, ROOM};

@@ -2,9 +2,8 @@
 
 ghost use Rattle.std.specs.Prelude.{◌≡◌, ℕ, ◌+◌, ◌*◌, ◌^◌, true, ◌<◌, ◌≤◌, not, List, [], ◌++◌, length, OnSome, IfSome, IfNone};
 ghost use Rattle.mb_stream.specs.Told.{Known};
-ghost use Rattle.mb_din.specs.Reader.{IsLongest, breaks, StatusNext};
-ghost use Rattle.mb_din.specs.Turn.{answer};
-ghost use Rattle.mb_outside.specs.Taking.{IsFront};
+ghost use Rattle.mb_stream.specs.ReaderLaw.{IsLongest, breaks, StatusNext, answer};
+ghost use Rattle.mb_message.specs.Front.{IsFront};
 ghost use Rattle.mb_carrier.specs.Carrier.{known, end_told, whole};
 ghost use Rattle.mb_carrier.specs.Hop.{ReaderGoes};
 ghost use Rattle.mb_carrier.specs.Port.{reader_spec, reader_offset, reader_owed, beside, is_partial, ReaderStands, ReaderRests, reader_spec_by, reader_offset_by, reader_owed_by, beside_by, is_partial_by, ReaderStandsBy, ReaderRestsBy};

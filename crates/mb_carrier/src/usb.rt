@@ -10,24 +10,23 @@ impl EventReader for CableReader {
     ghost use Rattle.std.specs.Prelude.{not, ◌==◌};
     ghost use Rattle.mb_din.specs.State.{Rests};
     ghost use Rattle.mb_usb.specs.State as state;
-    ghost use Rattle.mb_usb.specs.Under.{left_of, taken_of};
     ghost use Rattle.mb_usb.specs.Cables.{CableStands};
     ghost use Rattle.mb_carrier.specs.declared.spec.Spec.TheVariants.{Usb};
     ghost use Rattle.mb_carrier.specs.UsbLaws.{known-stays, marks-end, marks-suit};
 
     ghost spec = { λ r. Usb r.cable };
 
-    ghost offset = { λ r. r.packet.offset };
+    ghost offset = { λ r. state.cable_offset r };
 
-    ghost owed = { λ r. state.owed_one r };
+    ghost owed = { λ r. state.cable_owed r };
 
-    ghost beside = { λ r input. take (left_of r.packet.under) input };
+    ghost beside = { λ r input. take (state.cable_to_come r) input };
 
     ghost stands = { λ r bytes told. CableStands r bytes told };
 
     ghost rests = { λ r. Rests r.reader };
 
-    ghost is_partial = { λ r. not (taken_of r.packet.under == 0) };
+    ghost is_partial = { λ r. not (state.cable_taken r == 0) };
 
     #[inline(always)]
     fn next<'a>(&mut self, input: &mut &'a [u8]) -> Option<Seen<'a>> {

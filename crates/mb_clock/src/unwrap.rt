@@ -8,7 +8,7 @@ ghost use Rattle.mb_clock.specs.Clock.{begun, clock_of, last_moment, stamped};
 use std::marker::Model;
 
 /// The clock of a recording's reader.
-#[derive(Clone, Copy, Debug)]
+#[derive(Drop)]
 pub struct Unwrap {
     upper: u8,
     lower: u8,
@@ -22,8 +22,6 @@ impl Model for Unwrap {
     ghost Value = { Clock };
 
     ghost view = { λ u. record { upper = u.upper; lower = u.lower; moment = u.moment } };
-
-    ghost inverse = { λ c. record { upper = c.upper; lower = c.lower; moment = c.moment } };
 
     ghost invariant = { λ u. (u.upper < 64) × (u.lower < 128) };
 }

@@ -1,27 +1,22 @@
--- What a DIN reader promises (MIDI 1.0 Detailed Specification 4.2): the relation between what it keeps, the entries that it
--- took, and what it told of them. Nobody has to believe it: a fresh reader stands for nothing, each call keeps it, and each
--- answer is bound to the reading of a byte stream.
+-- What a DIN reader promises (MIDI 1.0 Detailed Specification 4.2): the relation between what it keeps, the entries that
+-- it took, and what it told of them.
 --
 --   Stands now es told      the reader took these entries and told this
---   Goes was now ..         what a call took, what it answered, and that the reader stands for both
+--   DinGoes was now ..      what a call took, what it answered, and that the reader stands for both
+--   NextSays was now ..     so it is whatever was taken and told before, and whatever follows
 --   IsFrontTaken ..         a call takes a front of its input
---   IsLongest left seen     a run is the longest that stands side by side in the input
---   breaks told             a message that was begun, or a SysEx, is broken by the next status
---   StatusNext left         and that status still stands in the input, where nothing of it is kept (`Rests`)
+--   RunNext now input       a SysEx is open, and a byte of it begins the input
 --   TakesWhole was now ..   a piece was taken whole, and one thing told of it
-use Rattle.std.specs.Prelude.{◌≡◌, ℕ, ◌+◌, ◌<◌, ◌≤◌, Bool, true, false, ◌&&◌, List, [], ◌∷◌, ◌++◌, map, length}
+use Rattle.std.specs.Prelude.{◌≡◌, ℕ, ◌+◌, ◌<◌, ◌≤◌, Bool, true, ◌&&◌, List, [], ◌∷◌, ◌++◌, length}
 use Rattle.mb_message.specs.Bytes.{is_data, is_channel}
-use Rattle.mb_message.specs.Signs.{AbortSign}
-use Rattle.mb_message.specs.declared.note.NoteKind.TheVariants.{Truncated}
-use Rattle.mb_message.specs.declared.event.Seen.{Seen}
-use Rattle.mb_message.specs.declared.event.Seen.TheVariants as seen
-use Rattle.mb_message.specs.declared.event.Ev.TheVariants as event
+use Rattle.mb_message.specs.Front.{IsFront}
 use Rattle.mb_stream.specs.Payload.{Entry, Heard, Silent, heard_from}
 use Rattle.mb_stream.specs.Groups.{last_of}
-use Rattle.mb_stream.specs.Told.{Told, Marks, Notes, Known}
-use Rattle.mb_stream.specs.Reading.{so_far}
+use Rattle.mb_stream.specs.Told.{Told, Known}
+use Rattle.mb_stream.specs.Reading.{so_far, told_signs}
+use Rattle.mb_stream.specs.ReaderLaw.{Goes, bare_told}
 use Rattle.mb_stream.specs.Working.{RisesFrom}
-use Rattle.mb_din.specs.State.{State, idle, state_of}
+use Rattle.mb_din.specs.State.{State, idle, state_of, open_now}
 
 -- offsets rise from the first number on, and all are below the second
 abbrev pub RisesTo : (low high : ℕ) → List Entry → Type 0
@@ -34,9 +29,6 @@ abbrev pub OnlyChannelsRun : List Entry → Type 0
 OnlyChannelsRun [] = Unit {0}
 OnlyChannelsRun (Silent s ∷ es) = (is_channel s ≡ true) × OnlyChannelsRun es
 OnlyChannelsRun (Heard x ∷ es) = OnlyChannelsRun es
-
-abbrev pub IsFront : {X : Type 0} → List X → List X → Type 0
-IsFront {X} front all = (rest : List X) × (all ≡ front ++ rest)
 
 -- What was told of the next byte before it was taken: nothing, or one truncated message or broken SysEx, and then the
 -- reader keeps nothing.
@@ -55,40 +47,27 @@ pub record Stands (now : State) (entries : List Entry) (told : List Known) : Typ
 
 -- A call took the front of its input and answered what it tells, and stands for both. `following` is what stands in the
 -- payload from the input on.
-pub record Goes (was now : State) (moment : ℕ) (input left : List ℕ) (answer : List Told) (entries : List Entry) (told : List Known) (following : List Entry) : Type 0 where
-  pub taken : List ℕ
-  pub front : input ≡ taken ++ left
-  pub offset : now.offset ≡ was.offset + length taken
-  pub fresh : List Known
-  pub answer_is : map (λ k. k.told) fresh ≡ answer
-  pub stands : Stands now (entries ++ heard_from was.offset moment taken) (told ++ fresh)
-  pub still : IsFront (told ++ fresh) (so_far (entries ++ following))
+abbrev pub DinGoes : (was now : State) (moment : ℕ) (input left : List ℕ) (answer : List Told) →
+    (entries : List Entry) (told : List Known) (following : List Entry) → Type 0
+DinGoes was now moment input left answer entries told following =
+    Goes bare_told (λ _. so_far (entries ++ following)) (λ taken. Stands now (entries ++ heard_from was.offset moment taken)) input left answer [] told
+
+-- whatever was taken and told before, and whatever follows the input in the payload
+abbrev pub NextSays : (was now : State) (input left : List ℕ) → List Told → Type 0
+NextSays was now input left answer =
+    (moment : ℕ) (entries : List Entry) (told : List Known) (more : List Entry) →
+    Stands was entries told → RisesFrom (was.offset + length input) more →
+    IsFront told (so_far (entries ++ (heard_from was.offset moment input ++ more))) →
+    DinGoes was now moment input left answer entries told (heard_from was.offset moment input ++ more)
 
 -- a call takes a front of its input, and its offset rises by as much
 abbrev pub IsFrontTaken : (was now : State) → (input left : List ℕ) → Type 0
 IsFrontTaken was now input left =
     (taken : List ℕ) × (input ≡ taken ++ left) × (now.offset ≡ was.offset + length taken)
 
--- the list is empty, or no data byte begins it
-abbrev pub NoDataNext : List ℕ → Type 0
-NoDataNext [] = Unit {0}
-NoDataNext (b ∷ bs) = is_data b ≡ false
-
--- a run is the longest that stands side by side in the input
-abbrev pub IsLongest : List ℕ → Seen → Type 0
-IsLongest left (seen.Ev (event.Run bytes)) = NoDataNext left
-IsLongest left _ = Unit {0}
-
--- a message that was begun, or an open SysEx, is broken
-abbrev pub breaks : List Told → Bool
-breaks (Marks AbortSign ∷ ts) = true
-breaks (Notes at Truncated ∷ ts) = true
-breaks _ = false
-
--- a status begins the list
-abbrev pub StatusNext : List ℕ → Type 0
-StatusNext [] = ⊥
-StatusNext (b ∷ bs) = is_data b ≡ false
+abbrev pub RunNext : State → List ℕ → Type 0
+RunNext s [] = ⊥
+RunNext s (b ∷ bs) = (is_data b ≡ true) × (open_now s ≡ true)
 
 abbrev pub is_all_data : List ℕ → Bool
 is_all_data [] = true
@@ -102,7 +81,5 @@ put_to offset s = record s { offset = offset }
 pub record TakesWhole (was now : State) (at : ℕ) (piece : List ℕ) (answer : List Told) : Type 0 where
   pub offset : now.offset ≡ at + length piece
   pub stays : (entries : List Entry) → Stands was entries (so_far entries) → Stands (put_to at was) entries (so_far entries)
-  pub goes : (moment : ℕ) (entries : List Entry) (told : List Known) (more : List Entry) →
-      Stands (put_to at was) entries told → RisesFrom (at + length piece) more →
-      IsFront told (so_far (entries ++ (heard_from at moment piece ++ more))) →
-      Goes (put_to at was) now moment piece [] answer entries told (heard_from at moment piece ++ more)
+  pub goes : NextSays (put_to at was) now piece [] answer
+  pub few : length (told_signs answer) ≤ length piece

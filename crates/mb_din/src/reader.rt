@@ -5,11 +5,13 @@ ghost use Rattle.mb_message.specs.Bytes.{is_channel, is_data, is_realtime, data_
 ghost use Rattle.mb_stream.specs.Payload.{Entry, Silent, heard_from};
 ghost use Rattle.mb_stream.specs.Groups.{last_of, is_sysex};
 ghost use Rattle.mb_stream.specs.Told.{Known, at_end, may_run};
-ghost use Rattle.mb_stream.specs.Reading.{so_far};
+ghost use Rattle.mb_stream.specs.Reading.{so_far, told_signs};
+ghost use Rattle.mb_stream.specs.ReaderLaw.{has_short, begins_run, answer, told_by, IsLongest, breaks, StatusNext};
 ghost use Rattle.mb_stream.specs.Working.{RisesFrom};
 ghost use Rattle.mb_din.specs.State.{owed, open_now, free_now, may_run_now, fresh, is_sound, Rests};
-ghost use Rattle.mb_din.specs.Turn.{answer, told_by, one, run, turn};
-ghost use Rattle.mb_din.specs.Reader.{Stands, Goes, IsFront, IsFrontTaken, IsLongest, TakesWhole, breaks, StatusNext, is_all_data};
+ghost use Rattle.mb_din.specs.Turn.{one, run, turn};
+ghost use Rattle.mb_din.specs.Reader.{Stands, NextSays, IsFrontTaken, TakesWhole, RunNext, is_all_data};
+ghost use Rattle.mb_message.specs.Front.{IsFront};
 
 use crate::progress::{
     Progress, at_end, before_status, is_free, is_open, is_running, message, realtime, short,
@@ -67,10 +69,7 @@ impl DinReader {
         requires early { self.old.offset + length input.old.now < 2 ^ 63 }
 
         // What it takes and answers, whatever was taken and told before, and whatever follows the input in the payload.
-        ensures stands { (moment : ℕ) (entries : List Entry) (told : List Known) (more : List Entry) →
-            Stands self.old entries told → RisesFrom (self.old.offset + length input.old.now) more →
-            IsFront told (so_far (entries ++ (heard_from self.old.offset moment input.old.now ++ more))) →
-            Goes self.old self.new moment input.old.now input.new.now (answer result) entries told (heard_from self.old.offset moment input.old.now ++ more) }
+        ensures stands { NextSays self.old self.new input.old.now input.new.now (answer result) }
         ensures front { IsFrontTaken self.old self.new input.old.now input.new.now }
         ensures end { self.new.offset + length input.new.now ≡ self.old.offset + length input.old.now }
         ensures some { OnSome result (answer result ≡ [] → ⊥) }
@@ -83,6 +82,15 @@ impl DinReader {
         // What a status breaks is told of before the status is taken: it still stands in the input, and nothing is begun,
         // running or open.
         ensures before { breaks (answer result) ≡ true → StatusNext input.new.now × Rests self.new }
+
+        // Behind a short message nothing is begun and no SysEx is open: a status may run from here on without a byte of its own.
+        ensures free { has_short (answer result) ≡ true → free_now self.new ≡ true }
+
+        // A run is told only where a SysEx was open and the run begins the input.
+        ensures runs { begins_run (answer result) ≡ true → RunNext self.old input.old.now }
+
+        // No more marks than the input has bytes: where one byte is handed in, one mark at most comes back.
+        ensures few { length (told_signs (answer result)) ≤ length input.old.now }
 
         // A caller's loop ends by this.
         ensures progress { OnSome result (2 * length input.new.now + owed self.new < 2 * length input.old.now + owed self.old) }
@@ -175,11 +183,13 @@ impl DinReader {
     }
 
     /// What only the end of the line makes known: a message that was begun and not finished, or an open SysEx. The
-    /// reader then stands as a fresh one does, for bytes from its present offset on.
+    /// reader then stands as a fresh one does, for bytes from its present offset on: a second call answers `None`.
     pub fn finish(&mut self) -> Option<Seen<'static>>
         ensures told { (entries : List Entry) → Stands self.old entries (so_far entries) → answer result ≡ at_end (last_of entries) }
         ensures some { OnSome result (answer result ≡ [] → ⊥) }
+        ensures when { IsSome result ↔ (free_now self.old ≡ false) }
         ensures as_fresh { self.new ≡ record fresh { offset = self.old.offset } }
+        ensures falls { OnSome result (owed self.new < owed self.old) }
         ensures stands { Stands self.new [] [] }
     {
         let told = at_end(self.progress);

@@ -2,22 +2,25 @@
 use Rattle.std.proofs.Common.{◌≡◌, ℕ, zero, suc, ◌+◌, ◌*◌, ◌-◌, ◌/◌, ◌%◌, ◌<◌, ◌⊎◌, inl, inr, true, false, List, [], ◌∷◌, ◌++◌, length, map, refl, sym, ◌∙◌, ap, subst, arith, append_assoc, append-nil, length-append}
 use Rattle.std.proofs.lemmas.Bool.Decides.{nat_tests}
 use Rattle.std.specs.List.{flat_map}
-use Rattle.mb_frames.specs.Frames.{FramePart, FrameBegin, FrameByte, FrameEnd, frame, frame_parts, parts, rest_parts, unfinished_parts, IsUnfinished, Cut, AreBytes}
-use Rattle.mb_frames.specs.Reading.{from, Stands, IsWhole, is_partial}
-use Rattle.mb_frames.specs.declared.frames.Place.{Place}
-use Rattle.mb_frames.specs.declared.frames.Place.TheVariants.{Between, High, Within}
-use Rattle.mb_frames.proofs.Steps.{rest_parts-zero, rest_parts-append}
+use Rattle.mb_frames.specs.Frames.{FramePart, FrameBegin, FrameByte, FrameEnd, frame, frame_parts, parts, unfinished_parts, IsUnfinished, Cut, AreBytes}
+use Rattle.mb_frames.specs.Counting.{counted_parts, rest_parts}
+use Rattle.mb_frames.specs.Reading.{Place, Between, High, Within, from, Stands, IsWhole, is_partial}
+use Rattle.mb_frames.proofs.Steps.{rest_parts-zero, rest_parts-append, parts-counted}
 
 -- whole frames
 
-parts-frame : (content more : List ℕ) → parts (frame content ++ more) ≡ frame_parts content ++ parts more
-parts-frame content more =
+counted-frame : (content more : List ℕ) → counted_parts (frame content ++ more) ≡ frame_parts content ++ counted_parts more
+counted-frame content more =
     let len : 256 * (length content / 256) + length content % 256 ≡ length content = omega arith in
     let rest : rest_parts (length content) (content ++ more) ≡ map FrameByte content ++ rest_parts 0 more = rest_parts-append (length content) content more 0 (omega arith) in
     let begins : ℕ → List FramePart = λ n. FrameBegin n ∷ rest_parts n (content ++ more) in
     ap begins len ∙
     (ap (λ z. FrameBegin (length content) ∷ z) (rest ∙ ap (λ z. map FrameByte content ++ z) (rest_parts-zero more)) ∙
-    ap (λ z. FrameBegin (length content) ∷ z) (sym (append_assoc (map FrameByte content) (FrameEnd ∷ []) (parts more))))
+    ap (λ z. FrameBegin (length content) ∷ z) (sym (append_assoc (map FrameByte content) (FrameEnd ∷ []) (counted_parts more))))
+
+parts-frame : (content more : List ℕ) → parts (frame content ++ more) ≡ frame_parts content ++ parts more
+parts-frame content more =
+    parts-counted (frame content ++ more) ∙ (counted-frame content more ∙ ap (λ z. frame_parts content ++ z) (sym (parts-counted more)))
 
 pub parts-frames : (contents : List (List ℕ)) (more : List ℕ) → parts (flat_map frame contents ++ more) ≡ flat_map frame_parts contents ++ parts more
 parts-frames [] more = refl
@@ -33,10 +36,10 @@ rest_parts-short (suc left) [] short = refl
 rest_parts-short (suc left) (b ∷ bs) short = ap (λ z. FrameByte b ∷ z) (rest_parts-short left bs (omega (arith, short)))
 
 pub parts-unfinished : (rest : List ℕ) → IsUnfinished rest → parts rest ≡ unfinished_parts rest
-parts-unfinished [] is = refl
-parts-unfinished (high ∷ []) is = refl
+parts-unfinished [] is = parts-counted []
+parts-unfinished (high ∷ []) is = parts-counted (high ∷ [])
 parts-unfinished (high ∷ low ∷ content) is =
-    ap (λ z. FrameBegin (256 * high + low) ∷ z) (rest_parts-short (256 * high + low) content is)
+    parts-counted (high ∷ low ∷ content) ∙ ap (λ z. FrameBegin (256 * high + low) ∷ z) (rest_parts-short (256 * high + low) content is)
 
 pub frames-parts : (contents : List (List ℕ)) → parts (flat_map frame contents) ≡ flat_map frame_parts contents
 frames-parts contents =
@@ -126,10 +129,10 @@ not_true h = cc
 
 pub whole_or_partial : (bytes : List ℕ) (so_far : List FramePart) (place : Place) →
     Stands place bytes so_far → (is_partial place ≡ false → IsWhole bytes) × (IsWhole bytes → is_partial place ≡ false)
-whole_or_partial bytes so_far Between s = (λ h. tells_alone bytes so_far Between s (λ more. refl), λ h. refl)
+whole_or_partial bytes so_far Between s = (λ h. tells_alone bytes so_far Between s (λ more. sym (parts-counted more)), λ h. refl)
 whole_or_partial bytes so_far (High high) s =
     (λ h. absurd (not_true h), λ whole. absurd (tells_more bytes so_far (High high) 0 (FrameBegin (256 * high + 0)) (rest_parts (256 * high + 0) []) s refl refl whole))
-whole_or_partial bytes so_far (Within zero) s = (λ h. tells_alone bytes so_far (Within zero) s rest_parts-zero, λ h. refl)
+whole_or_partial bytes so_far (Within zero) s = (λ h. tells_alone bytes so_far (Within zero) s (λ more. rest_parts-zero more ∙ ap (λ z. FrameEnd ∷ z) (sym (parts-counted more))), λ h. refl)
 whole_or_partial bytes so_far (Within (suc left)) s =
     (λ h. absurd (not_true (sym (inside left) ∙ h)), λ whole. absurd (tells_more bytes so_far (Within (suc left)) 0 (FrameByte 0) (rest_parts left []) s refl refl whole))
 
@@ -145,12 +148,14 @@ stands_behind contents rest place so_far s = record {
 }
 
 stands_high : (high : ℕ) → Stands (High high) (high ∷ []) []
-stands_high high = record { rest = λ more. refl }
+stands_high high = record { rest = λ more. parts-counted (high ∷ more) }
 
 stands_content : (high low left : ℕ) (content : List ℕ) → 256 * high + low ≡ length content + left →
     Stands (Within left) (high ∷ low ∷ content) (FrameBegin (256 * high + low) ∷ map FrameByte content)
 stands_content high low left content is = record {
-  rest = λ more. ap (λ z. FrameBegin (256 * high + low) ∷ z) (rest_parts-append (256 * high + low) content more left is);
+  rest = λ more.
+      parts-counted (high ∷ low ∷ (content ++ more)) ∙
+      ap (λ z. FrameBegin (256 * high + low) ∷ z) (rest_parts-append (256 * high + low) content more left is);
 }
 
 -- Frames and a rest are whole only where there is no rest.

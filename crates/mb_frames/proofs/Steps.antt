@@ -1,13 +1,12 @@
--- What each step of the reader takes and tells.
-use Rattle.std.proofs.Common.{◌≡◌, ℕ, zero, suc, ◌+◌, ◌*◌, ◌-◌, ◌≤◌, List, [], ◌∷◌, ◌++◌, length, Option, Some, None, map, refl, sym, ◌∙◌, ap, arith, append_assoc, Bor}
-use Rattle.mb_frames.specs.Frames.{FramePart, FrameBegin, FrameByte, FrameEnd, parts, rest_parts}
-use Rattle.mb_frames.specs.Reading.{from, told, Takes, Stands}
-use Rattle.mb_frames.specs.declared.frames.Place.{Place}
-use Rattle.mb_frames.specs.declared.frames.Place.TheVariants.{Between, High, Within}
-use Rattle.mb_frames.specs.declared.frames.Part.{Part}
-use Rattle.mb_frames.specs.declared.frames.Part.TheVariants as part
+-- The parts by counting, and that they are those of the frames that a list is cut into.
+use Rattle.std.proofs.Common.{◌≡◌, ℕ, zero, suc, ◌+◌, ◌*◌, ◌≤◌, ◌==◌, Bool, false, if◌then◌else◌, List, [], ◌∷◌, ◌++◌, length, map, take, drop, refl, sym, ◌∙◌, ap, arith, append_assoc}
+use Rattle.std.proofs.lemmas.Bool.Decides.{nat_tests}
+use Rattle.std.proofs.lemmas.List.{length-drop}
+use Rattle.std.specs.List.{flat_map}
+use Rattle.mb_frames.specs.Frames.{FramePart, FrameBegin, FrameByte, FrameEnd, framed_from, framed_parts, parts}
+use Rattle.mb_frames.specs.Counting.{counted_parts, rest_parts}
 
-pub rest_parts-zero : (bytes : List ℕ) → rest_parts 0 bytes ≡ FrameEnd ∷ parts bytes
+pub rest_parts-zero : (bytes : List ℕ) → rest_parts 0 bytes ≡ FrameEnd ∷ counted_parts bytes
 rest_parts-zero [] = refl
 rest_parts-zero (high ∷ []) = refl
 rest_parts-zero (high ∷ low ∷ bytes) = refl
@@ -19,54 +18,34 @@ rest_parts-append zero (b ∷ bs) more further is = absurd (omega (arith, is))
 rest_parts-append (suc left) (b ∷ bs) more further is =
     ap (λ z. FrameByte b ∷ z) (rest_parts-append left bs more further (omega (arith, is)))
 
--- what was taken and told before, and a step
-pub Stands-takes : (old new : Place) (input left : List ℕ) (answer : Option Part) (bytes : List ℕ) (so_far : List FramePart) →
-    Stands old bytes so_far → Takes old new input left answer →
-    (taken : List ℕ) × (input ≡ taken ++ left) × Stands new (bytes ++ taken) (so_far ++ told answer)
-Stands-takes old new input left answer bytes so_far s t = (
-  t.taken,
-  t.front,
-  record {
-    rest = λ more.
-        ap parts (append_assoc bytes t.taken more) ∙
-        (s.rest (t.taken ++ more) ∙
-        (ap (λ z. so_far ++ z) (t.rest more) ∙
-        sym (append_assoc so_far (told answer) (from new more))));
-  },
-)
+-- a content of this length, as far as it stands there, its end, and what follows
+abbrev ends : Bool → List FramePart
+ends t = if t then FrameEnd ∷ [] else []
 
-pub takes_none : (place : Place) (input : List ℕ) → Takes place place input input None
-takes_none place input = record { taken = []; front = refl; rest = λ more. refl }
+rest_parts-cut : (left : ℕ) (bytes : List ℕ) →
+    rest_parts left bytes ≡ map FrameByte (take left bytes) ++ (ends (length (take left bytes) == left) ++ counted_parts (drop left bytes))
+rest_parts-cut zero bytes = rest_parts-zero bytes
+rest_parts-cut (suc left) [] =
+    let short : (0 == suc left) ≡ false = grind (arith, nat_tests) in
+    ap (λ t. ends t ++ []) (sym short)
+rest_parts-cut (suc left) (b ∷ bytes) =
+    let same : (length (take left bytes) == left) ≡ (suc (length (take left bytes)) == suc left) = grind (arith, nat_tests) in
+    ap (λ z. FrameByte b ∷ z)
+    (rest_parts-cut left bytes ∙ ap (λ t. map FrameByte (take left bytes) ++ (ends t ++ counted_parts (drop left bytes))) same)
 
--- the first byte of a length is taken, and then what follows it
-pub takes_high : (old new : Place) (high : ℕ) (input rest left : List ℕ) (answer : Option Part) →
-    old ≡ Between → input ≡ high ∷ rest → Takes (High high) new rest left answer → Takes old new input left answer
-takes_high old new high input rest left answer place is t = record {
-  taken = high ∷ t.taken;
-  front = is ∙ ap (λ z. high ∷ z) t.front;
-  rest = λ more. ap (λ p. from p (high ∷ (t.taken ++ more))) place ∙ t.rest more;
-}
+by_most : (most : ℕ) (bytes : List ℕ) → length bytes ≤ most → flat_map framed_parts (framed_from most bytes) ≡ counted_parts bytes
+by_most zero [] few = refl
+by_most zero (b ∷ bytes) few = absurd (omega (arith, few))
+by_most (suc most) [] few = refl
+by_most (suc most) (high ∷ []) few = refl
+by_most (suc most) (high ∷ low ∷ bytes) few =
+    let n = 256 * high + low in
+    let content = map FrameByte (take n bytes) in
+    let end = ends (length (take n bytes) == n) in
+    let later = flat_map framed_parts (framed_from most (drop n bytes)) in
+    let rest : later ≡ counted_parts (drop n bytes) = by_most most (drop n bytes) (omega (arith, few, length-drop n bytes)) in
+    ap (λ z. FrameBegin n ∷ z)
+    (append_assoc content end later ∙ (ap (λ z. content ++ (end ++ z)) rest ∙ sym (rest_parts-cut n bytes)))
 
--- the second one
-pub takes_low : (old : Place) (high low len : ℕ) (input left : List ℕ) →
-    old ≡ High high → input ≡ low ∷ left → len ≡ 256 * high + low → Takes old (Within len) input left (Some (part.Begin len))
-takes_low old high low len input left place is len_is = record {
-  taken = low ∷ [];
-  front = is;
-  rest = λ more. ap (λ p. from p (low ∷ more)) place ∙ ap (λ n. FrameBegin n ∷ rest_parts n more) (sym len_is);
-}
-
-pub takes_end : (old : Place) (input : List ℕ) → old ≡ Within 0 → Takes old Between input input (Some part.End)
-takes_end old input place = record {
-  taken = [];
-  front = refl;
-  rest = λ more. ap (λ p. from p more) place ∙ rest_parts-zero more;
-}
-
-pub takes_bytes : (old : Place) (left : ℕ) (input rest : List ℕ) (bytes : Bor (List ℕ)) →
-    old ≡ Within left → input ≡ bytes.now ++ rest → length bytes.now ≤ left → Takes old (Within (left - length bytes.now)) input rest (Some (part.Bytes bytes))
-takes_bytes old left input rest bytes place is few = record {
-  taken = bytes.now;
-  front = is;
-  rest = λ more. ap (λ p. from p (bytes.now ++ more)) place ∙ rest_parts-append left bytes.now more (left - length bytes.now) (omega (arith, few));
-}
+pub parts-counted : (bytes : List ℕ) → parts bytes ≡ counted_parts bytes
+parts-counted bytes = by_most (length bytes) bytes (omega arith)

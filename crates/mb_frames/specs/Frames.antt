@@ -4,11 +4,13 @@
 --   FramePart                a frame begins, a byte of its content, it ends
 --   frame content            the bytes of a frame
 --   frame_parts content      the parts of a frame
+--   Framed                   a frame as it stands in a list: its length, and what stands there of its content
+--   framed bytes             a list cut into frames
 --   parts bytes              the parts of a list of bytes
 --   IsUnfinished rest        the front of a frame, and no whole one
 --   Cut bytes                the frames of a list, and its rest
 --   AreBytes bytes           each is below 256
-use Rattle.std.specs.Prelude.{◌≡◌, ℕ, zero, suc, ◌+◌, ◌*◌, ◌/◌, ◌%◌, ◌<◌, List, [], ◌∷◌, ◌++◌, length, map, flat_map}
+use Rattle.std.specs.Prelude.{◌≡◌, ℕ, zero, suc, ◌+◌, ◌*◌, ◌/◌, ◌%◌, ◌<◌, ◌==◌, if◌then◌else◌, List, [], ◌∷◌, ◌++◌, length, take, drop, map, flat_map}
 
 pub data FramePart : Type 0 where
   FrameBegin : (length : ℕ) → FramePart
@@ -21,18 +23,27 @@ frame content = (length content / 256) ∷ (length content % 256) ∷ content
 abbrev pub frame_parts : (content : List ℕ) → List FramePart
 frame_parts content = FrameBegin (length content) ∷ map FrameByte content ++ FrameEnd ∷ []
 
--- So many bytes of a content are to come. Where none are, the frame ends, and what follows is a length.
-abbrev pub rest_parts : (left : ℕ) → List ℕ → List FramePart
-rest_parts zero [] = FrameEnd ∷ []
-rest_parts zero (high ∷ []) = FrameEnd ∷ []
-rest_parts zero (high ∷ low ∷ bytes) = FrameEnd ∷ FrameBegin (256 * high + low) ∷ rest_parts (256 * high + low) bytes
-rest_parts (suc left) [] = []
-rest_parts (suc left) (byte ∷ bytes) = FrameByte byte ∷ rest_parts left bytes
+pub record Framed : Type 0 where
+  pub len : ℕ
+  pub content : List ℕ
+
+-- A length that lacks its second byte is cut off. There are no more frames than bytes.
+abbrev pub framed_from : (most : ℕ) → List ℕ → List Framed
+framed_from zero bytes = []
+framed_from (suc most) [] = []
+framed_from (suc most) (high ∷ []) = []
+framed_from (suc most) (high ∷ low ∷ bytes) =
+    record { len = 256 * high + low; content = take (256 * high + low) bytes } ∷ framed_from most (drop (256 * high + low) bytes)
+
+abbrev pub framed : List ℕ → List Framed
+framed bytes = framed_from (length bytes) bytes
+
+-- a frame ends where its content is all there
+abbrev pub framed_parts : Framed → List FramePart
+framed_parts f = FrameBegin f.len ∷ map FrameByte f.content ++ (if length f.content == f.len then FrameEnd ∷ [] else [])
 
 abbrev pub parts : List ℕ → List FramePart
-parts [] = []
-parts (high ∷ []) = []
-parts (high ∷ low ∷ bytes) = FrameBegin (256 * high + low) ∷ rest_parts (256 * high + low) bytes
+parts bytes = flat_map framed_parts (framed bytes)
 
 -- the parts of the last, unfinished frame
 abbrev pub unfinished_parts : List ℕ → List FramePart

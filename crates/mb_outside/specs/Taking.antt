@@ -1,14 +1,11 @@
 -- What a taker of bytes took.
 --
---   IsFront front whole     the one is the beginning of the other
 --   TookFront took ..       a beginning of the piece was taken
 --   Wrote ..                a handle of a desk got these bytes, and nothing else of the desk changed but the count of
 --                           write faults
-use Rattle.std.specs.Prelude.{◌≡◌, ℕ, Bool, List, ◌++◌, IsTrue}
+use Rattle.std.specs.Prelude.{◌≡◌, ℕ, Bool, List, IsTrue}
+use Rattle.mb_message.specs.Front.{IsFront}
 use Rattle.mb_outside.specs.Contents.{Contents, after_write}
-
-abbrev pub IsFront : {A : Type 0} → (front whole : List A) → Type 0
-IsFront {A} front whole = (rest : List A) × (whole ≡ front ++ rest)
 
 abbrev pub TookFront : {S : Type 0} → (S → List ℕ → S → Type 0) → (before after : S) (piece : List ℕ) → Type 0
 TookFront took before after piece = (front : List ℕ) × IsFront front piece × took before front after

@@ -4,7 +4,8 @@ ghost use Rattle.std.specs.Prelude.{◌≡◌, ◌≢◌, ℕ, List, IsTrue, OnO
 ghost use Rattle.std.proofs.Common.{◌∙◌, subst};
 ghost use Rattle.mb_outside.specs.Cause.{HasCause};
 ghost use Rattle.mb_outside.specs.Contents.{is_writable};
-ghost use Rattle.mb_outside.specs.Taking.{IsFront, Wrote};
+ghost use Rattle.mb_outside.specs.Taking.{Wrote};
+ghost use Rattle.mb_message.specs.Front.{IsFront};
 
 use crate::{Desk, Failed, Out, Refused};
 

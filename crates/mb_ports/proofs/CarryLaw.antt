@@ -8,12 +8,14 @@ use Rattle.mb_stream.specs.Groups.{Group, last_of}
 use Rattle.mb_stream.specs.Told.{Told, Known}
 use Rattle.mb_stream.specs.Reading.{so_far}
 use Rattle.mb_stream.specs.Working.{RisesFrom, news_from}
-use Rattle.mb_din.specs.Reader.{Stands, IsFront}
+use Rattle.mb_din.specs.Reader.{Stands, NextSays}
+use Rattle.mb_message.specs.Front.{IsFront}
 use Rattle.mb_din.specs.State.{State}
 use Rattle.mb_din.proofs.Rises.{RisesFrom-heard, so_far-append}
 use Rattle.mb_ports.specs.Events.{Event, port_payload, Ported, ported, ports_so_far, ports_news, EventsRise}
 use Rattle.mb_ports.specs.Machine.{Machine, remarked, events_from, events, under_from, due_after, Steady}
-use Rattle.mb_ports.specs.Reader.{PortsStand, Holds, all_known, bare, Tells, NextSays}
+use Rattle.mb_ports.specs.Reader.{PortsStand, Holds, all_known, bare}
+use Rattle.mb_stream.specs.ReaderLaw.{Tells}
 use Rattle.mb_ports.proofs.PortsLaw.{EventsRise-front, groups_after, ports_news-append, ports_so_far-append, last_groups, last_groups-port}
 use Rattle.mb_ports.proofs.MachineLaw.{events_from-append, under_from-append, LowPorts, rise-notes, events-rise, carried_run, port_payload-append, port_payload-own, port_payload-other, ports_news-run, steady-first, steady-events, steady-quiet}
 use Rattle.mb_ports.proofs.ReaderLaw.{whole, AheadAt, stands-ahead, not-ahead, front-rest, events-more, known-more, every-stands}
@@ -153,6 +155,7 @@ pub record Call {U : Type 0} (m : Machine U) (n o : ℕ) (u : U) (rs readers : �
   pub fits : length ys ≤ room
   pub some : 0 < length ys
   pub cut : ys ≡ ts ++ kept
+  pub offset : (readers p).offset ≡ o + length ts
   pub stays : (es : List Entry) → Stands (rs p) es (so_far es) → Stands (placed_at o (rs p)) es (so_far es)
   pub says : NextSays (placed_at o (rs p)) (readers p) ys kept answer
   pub others : (c : ℕ) → c < n → (c ≡ p → ⊥) → readers c ≡ rs c
@@ -186,7 +189,7 @@ started m n lows o u rs p bytes ys after told h es rises is below front stays =
 
 pub tells-carry : {U : Type 0} (m : Machine U) (n : ℕ) → LowPorts m n → (o : ℕ) (u : U) (rs readers : ℕ → State) (p room : ℕ) (ys after kept ts : List ℕ) (answer : List Told) →
     Call m n o u rs readers p room ys kept ts answer →
-    Tells (all_known m n) (Holds m n (whole o u [] rs)) (Holds m n (whole (o + length ts) (under_from m u ts) (due_after m u [] o ts) readers)) (ys ++ after) (kept ++ after) (map (λ t. (Some p, t)) answer)
+    Tells bare (all_known m n) (Holds m n (whole o u [] rs)) (Holds m n (whole (o + length ts) (under_from m u ts) (due_after m u [] o ts) readers)) (ys ++ after) (kept ++ after) (map (λ t. (Some p, t)) answer)
 tells-carry m n lows o u rs readers p room ys after kept ts answer call bytes told h front =
     let below : p < n = lows u p (steady-first m u p room (omega (arith, call.some, call.fits)) call.steady) in
     let c = cut m n lows o u p room (last_groups h.taken) ys after call.steady call.fits call.some in
@@ -233,7 +236,7 @@ tells-carry m n lows o u rs readers p room ys after kept ts answer call bytes to
       taken = ts;
       front = ap (λ z. z ++ after) call.cut ∙ append_assoc ts kept after;
       fresh = map (ported p) d.fresh;
-      seen_is = map-pair p d.fresh ∙ ap (map (λ t. (Some p, t))) d.answer_is;
+      answer_is = map-pair p d.fresh ∙ ap (map (λ t. (Some p, t))) d.answer_is;
       stands = record {
         offset = ap (λ z. z + length ts) h.offset ∙ sym (length-append bytes ts);
         under = ap (λ z. under_from m z ts) h.under ∙ sym (under_from-append m m.start bytes ts);
@@ -247,7 +250,7 @@ tells-carry m n lows o u rs readers p room ys after kept ts answer call bytes to
           own = subst (λ z. Stands (readers p) z (so_far z ++ now.ahead)) (sym own_payload) (subst (Stands (readers p) (entries ++ heard_from o 0 ts)) now.told_is now);
           others = λ q low apart. subst (λ z. Stands (readers q) z (so_far z)) (sym (other-run h.taken p q o ts apart)) (subst (λ z. Stands z (port_payload q h.taken) (so_far (port_payload q h.taken))) (sym (call.others q low apart)) (st.others q low apart));
         };
-        here = inr (d.offset ∙ ap (λ z. o + length z) taken_is);
+        here = inr call.offset;
         rested = rested-by m u p room o ts kept now.ahead call.steady fits_cut none_ahead;
       };
       still = (

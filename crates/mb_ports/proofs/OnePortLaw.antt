@@ -6,12 +6,14 @@ use Rattle.mb_message.specs.declared.note.Note.{Note}
 use Rattle.mb_stream.specs.Told.{Told, Known}
 use Rattle.mb_stream.specs.Order.{not_after, put_in, in_order}
 use Rattle.mb_stream.specs.Reading.{payload_told, so_far}
-use Rattle.mb_din.specs.Reader.{Stands, IsFront}
+use Rattle.mb_din.specs.Reader.{Stands}
+use Rattle.mb_message.specs.Front.{IsFront}
 use Rattle.mb_din.specs.State.{State}
 use Rattle.mb_ports.specs.Events.{Event, port_payload, unit_notes, Ported, ported, unported, known_of, ports_so_far, ports_news, EventsRise}
 use Rattle.mb_ports.specs.Machine.{Machine, remarked, events_from, events, under_from}
-use Rattle.mb_ports.specs.Reader.{Whole, Holds, all_known, bare, Goes, Tells, AllTold}
-use Rattle.mb_ports.specs.OnePort.{one_known, HoldsOne, TellsOne, AllToldOne}
+use Rattle.mb_ports.specs.Reader.{Whole, Holds, all_known, bare}
+use Rattle.mb_stream.specs.ReaderLaw.{Goes, Tells, AllTold, bare_told}
+use Rattle.mb_ports.specs.OnePort.{one_known, HoldsOne}
 use Rattle.mb_ports.proofs.PortsLaw.{rises-back, last_groups, ports_so_far-append}
 use Rattle.mb_ports.proofs.MachineLaw.{events_from-append, LowPorts, events-rise, Headed, of_note, of_port, news-head}
 use Rattle.mb_ports.proofs.ReaderLaw.{whole, AheadAt, stands-ahead, events-more, map-nil, finish-stands}
@@ -115,17 +117,17 @@ tolds [] = refl
 tolds (p ∷ ps) = ap (λ z. p.known.told ∷ z) (tolds ps)
 
 pub tells-one : {U : Type 0} (m : Machine U) → LowPorts m 1 → (was now : Whole U) (input left : List ℕ) (seen : List (Option ℕ × Told)) (answer : List Told) → map (λ s. s.1) seen ≡ answer →
-    Tells (all_known m 1) (Holds m 1 was) (Holds m 1 now) input left seen → TellsOne (one_known m) (HoldsOne m was) (HoldsOne m now) input left answer
+    Tells bare (all_known m 1) (Holds m 1 was) (Holds m 1 now) input left seen → Tells bare_told (one_known m) (HoldsOne m was) (HoldsOne m now) input left answer
 tells-one m lows was now input left seen answer e tells bytes told h front =
     let f : IsFront h.with_port (all_known m 1 (bytes ++ input)) =
     with-ports m lows was bytes input h.with_port h.holds (front.0, front.1 ∙ ap (λ z. z ++ front.0) h.told_is) in
-    let g : Goes (all_known m 1) (Holds m 1 now) input left seen bytes h.with_port = tells bytes h.with_port h.holds f in
+    let g : Goes bare (all_known m 1) (Holds m 1 now) input left seen bytes h.with_port = tells bytes h.with_port h.holds f in
     let told_is : told ++ map known_of g.fresh ≡ map known_of (h.with_port ++ g.fresh) = ap (λ z. z ++ map known_of g.fresh) h.told_is ∙ sym (known-append h.with_port g.fresh) in
     record {
       taken = g.taken;
       front = g.front;
       fresh = map known_of g.fresh;
-      answer_is = tolds g.fresh ∙ (ap (map (λ s. s.1)) g.seen_is ∙ e);
+      answer_is = tolds g.fresh ∙ (ap (map (λ s. s.1)) g.answer_is ∙ e);
       stands = record { with_port = h.with_port ++ g.fresh; holds = g.stands; told_is = told_is };
       still = (
         map known_of g.still.0,
@@ -133,7 +135,7 @@ tells-one m lows was now input left seen answer e tells bytes told h front =
       );
     }
 
-pub all_told-one : {U : Type 0} (m : Machine U) → LowPorts m 1 → (was : Whole U) (input : List ℕ) → AllTold (all_known m 1) (Holds m 1 was) input → AllToldOne (one_known m) (HoldsOne m was) input
+pub all_told-one : {U : Type 0} (m : Machine U) → LowPorts m 1 → (was : Whole U) (input : List ℕ) → AllTold (all_known m 1) (Holds m 1 was) input → AllTold (one_known m) (HoldsOne m was) input
 all_told-one m lows was input all bytes told h front =
     h.told_is ∙
     ap (map known_of) (all bytes h.with_port h.holds (with-ports m lows was bytes input h.with_port h.holds (front.0, front.1 ∙ ap (λ z. z ++ front.0) h.told_is)))

@@ -1,59 +1,28 @@
 -- The steps of a reader of packets, for any machine: a note that is due, and a byte that no port has.
 --
---   tells-refl, tells-trans      one relation that composes
 --   tells-due, tells-pass        the two steps
 --   all_told-none                where the input is used up, all is told
 --   finish-stands, start-holds   the end, and the beginning
-use Rattle.std.proofs.Common.{◌≡◌, ℕ, ◌+◌, ◌-◌, ◌<◌, inl, inr, Bool, true, false, ◌==◌, Option, Some, None, List, [], ◌∷◌, ◌++◌, length, map, refl, sym, ◌∙◌, ap, ap₂, subst, arith, append_assoc, append-nil, length-append}
+use Rattle.std.proofs.Common.{◌≡◌, ℕ, ◌+◌, ◌-◌, ◌<◌, inl, inr, Bool, true, false, ◌==◌, Option, Some, None, List, [], ◌∷◌, ◌++◌, length, map, refl, sym, ◌∙◌, ap, subst, arith, append_assoc, append-nil, length-append}
 use Rattle.std.proofs.lemmas.List.{append_cancel_left}
 use Rattle.std.proofs.lemmas.Bool.Decides.{nat_tests}
 use Rattle.mb_message.specs.declared.note.Note.{Note}
 use Rattle.mb_stream.specs.Payload.{Entry}
 use Rattle.mb_stream.specs.Groups.{Group, last_of}
 use Rattle.mb_stream.specs.Told.{Told, Notes, Known}
-use Rattle.mb_stream.specs.Reading.{so_far}
-use Rattle.mb_din.specs.Reader.{Stands, IsFront, IsAhead}
+use Rattle.mb_stream.specs.Reading.{so_far, sign_in, told_signs}
+use Rattle.mb_din.specs.Reader.{Stands, IsAhead}
+use Rattle.mb_message.specs.Front.{IsFront}
 use Rattle.mb_din.specs.State.{State, state_of}
 use Rattle.mb_ports.specs.Events.{Event, Remarked, port_payload, Ported, ported, unported, ports_so_far, ports_news, EventsRise}
 use Rattle.mb_ports.specs.Machine.{Machine, remark, remarked, carried_by, spot, events_from, events, under_from}
-use Rattle.mb_ports.specs.Reader.{Whole, PortsStand, Holds, all_known, bare, Goes, Tells, AllTold}
+use Rattle.mb_ports.specs.Reader.{Whole, PortsStand, Holds, all_known, bare, port_signs}
+use Rattle.mb_stream.specs.ReaderLaw.{Goes, Tells, AllTold}
 use Rattle.mb_ports.proofs.PortsLaw.{EventsRise-front, last_groups, ports_law, ports_so_far-append}
 use Rattle.mb_ports.proofs.MachineLaw.{events_from-append, under_from-append, LowPorts, rise-notes, events-rise, Headed, of_note, of_port, news-head, port_payload-append, port_payload-notes}
 
 abbrev pub whole : {U : Type 0} → (offset : ℕ) → U → List Note → (ℕ → State) → Whole U
 whole o u due readers = record { offset = o; under = u; due = due; readers = readers }
-
--- The relation composes.
-
-pub tells-refl : (known : List ℕ → List Ported) (now : List ℕ → List Ported → Type 0) (input : List ℕ) → Tells known now now input input []
-tells-refl known now input bytes told h front = record {
-  taken = [];
-  front = refl;
-  fresh = [];
-  seen_is = refl;
-  stands = subst (λ bs. now bs (told ++ [])) (sym (append-nil bytes)) (subst (now bytes) (sym (append-nil told)) h);
-  still = (front.0, front.1 ∙ ap (λ z. z ++ front.0) (sym (append-nil told)));
-}
-
-map-bare : (xs ys : List Ported) → map bare (xs ++ ys) ≡ map bare xs ++ map bare ys
-map-bare [] ys = refl
-map-bare (x ∷ xs) ys = ap (λ z. bare x ∷ z) (map-bare xs ys)
-
-pub tells-trans : (known : List ℕ → List Ported) (was mid now : List ℕ → List Ported → Type 0) (input between left : List ℕ) (seen more : List (Option ℕ × Told)) →
-    Tells known was mid input between seen → Tells known mid now between left more → Tells known was now input left (seen ++ more)
-tells-trans known was mid now input between left seen more f g bytes told h front =
-    let a : Goes known mid input between seen bytes told = f bytes told h front in
-    let here : bytes ++ input ≡ (bytes ++ a.taken) ++ between = ap (λ z. bytes ++ z) a.front ∙ sym (append_assoc bytes a.taken between) in
-    let b : Goes known now between left more (bytes ++ a.taken) (told ++ a.fresh) =
-    g (bytes ++ a.taken) (told ++ a.fresh) a.stands (a.still.0, ap known (sym here) ∙ a.still.1) in
-    record {
-      taken = a.taken ++ b.taken;
-      front = a.front ∙ (ap (λ z. a.taken ++ z) b.front ∙ sym (append_assoc a.taken b.taken left));
-      fresh = a.fresh ++ b.fresh;
-      seen_is = map-bare a.fresh b.fresh ∙ ap₂ (λ xs ys. xs ++ ys) a.seen_is b.seen_is;
-      stands = subst (λ bs. now bs (told ++ (a.fresh ++ b.fresh))) (append_assoc bytes a.taken b.taken) (subst (now ((bytes ++ a.taken) ++ b.taken)) (append_assoc told a.fresh b.fresh) b.stands);
-      still = (b.still.0, ap known here ∙ (b.still.1 ∙ ap (λ z. z ++ b.still.0) (append_assoc told a.fresh b.fresh)));
-    }
 
 -- What was told ahead.
 
@@ -114,7 +83,7 @@ payload-note : (c : ℕ) (taken : List Event) (k : Known) → port_payload c tak
 payload-note c taken k = sym (port_payload-append c taken (Remarked k ∷ []) ∙ append-nil (port_payload c taken))
 
 pub tells-due : {U : Type 0} (m : Machine U) (n : ℕ) → LowPorts m n → (o : ℕ) (u : U) (rs : ℕ → State) (input : List ℕ) (due xs : List Note) (x : Note) → due ≡ x ∷ xs →
-    Tells (all_known m n) (Holds m n (whole o u due rs)) (Holds m n (whole o u xs rs)) input input ((None, Notes x.at x.kind) ∷ [])
+    Tells bare (all_known m n) (Holds m n (whole o u due rs)) (Holds m n (whole o u xs rs)) input input ((None, Notes x.at x.kind) ∷ [])
 tells-due m n lows o u rs input due xs x e bytes told h front =
     let k = remark (o - 1) x in
     let taken = h.taken ++ Remarked k ∷ [] in
@@ -132,7 +101,7 @@ tells-due m n lows o u rs input due xs x e bytes told h front =
       taken = [];
       front = refl;
       fresh = unported k ∷ [];
-      seen_is = refl;
+      answer_is = refl;
       stands = subst (λ bs. Holds m n (whole o u xs rs) bs (told ++ unported k ∷ [])) (sym (append-nil bytes)) (record {
         offset = h.offset;
         under = h.under;
@@ -166,7 +135,7 @@ passed-rises n at b (Some p) xs es e r = cc
 passed-rises n at b None xs es e r = rise-notes n (at + 1) at xs es (omega arith) r
 
 pub tells-pass : {U : Type 0} (m : Machine U) (n : ℕ) → LowPorts m n → (o : ℕ) (u : U) (rs : ℕ → State) (b : ℕ) (left : List ℕ) → m.port u ≡ None →
-    Tells (all_known m n) (Holds m n (whole o u [] rs)) (Holds m n (whole (o + 1) (m.after u b) (m.notes u b o) rs)) (b ∷ left) left []
+    Tells bare (all_known m n) (Holds m n (whole o u [] rs)) (Holds m n (whole (o + 1) (m.after u b) (m.notes u b o) rs)) (b ∷ left) left []
 tells-pass m n lows o u rs b left none bytes told h front =
     let s = h.stand in
     let are : events m bytes ≡ h.taken = h.events_are ∙ append-nil h.taken in
@@ -184,7 +153,7 @@ tells-pass m n lows o u rs b left none bytes told h front =
       taken = b ∷ [];
       front = refl;
       fresh = [];
-      seen_is = refl;
+      answer_is = refl;
       stands = subst (Holds m n (whole (o + 1) (m.after u b) (m.notes u b o) rs) (bytes ++ b ∷ [])) (sym (append-nil told)) (record {
         offset = ap (λ z. z + 1) h.offset ∙ sym (length-append bytes (b ∷ []));
         under = ap (λ z. m.after z b) h.under ∙ sym (under_from-append m m.start bytes (b ∷ []));
@@ -218,10 +187,10 @@ all-told m n o u rs bytes told h front =
     s.told_is ∙ (ap (λ z. ports_so_far n h.taken ++ z) none ∙ (append-nil (ports_so_far n h.taken) ∙ sym are))
 
 pub all_told-none : {U : Type 0} (m : Machine U) (n o : ℕ) (u : U) (rs : ℕ → State) (was : List ℕ → List Ported → Type 0) (input : List ℕ) →
-    Tells (all_known m n) was (Holds m n (whole o u [] rs)) input [] [] → AllTold (all_known m n) was input
+    Tells bare (all_known m n) was (Holds m n (whole o u [] rs)) input [] [] → AllTold (all_known m n) was input
 all_told-none m n o u rs was input tells bytes told h front =
-    let g : Goes (all_known m n) (Holds m n (whole o u [] rs)) input [] [] bytes told = tells bytes told h front in
-    let none : g.fresh ≡ [] = map-nil bare g.fresh g.seen_is in
+    let g : Goes bare (all_known m n) (Holds m n (whole o u [] rs)) input [] [] bytes told = tells bytes told h front in
+    let none : g.fresh ≡ [] = map-nil bare g.fresh g.answer_is in
     let all : bytes ++ input ≡ bytes ++ g.taken = ap (λ z. bytes ++ z) (g.front ∙ append-nil g.taken) in
     let told_is : told ++ g.fresh ≡ told = ap (λ z. told ++ z) none ∙ append-nil told in
     sym told_is ∙ (all-told m n o u rs (bytes ++ g.taken) (told ++ g.fresh) g.stands (g.still.0, ap (all_known m n) (sym all) ∙ g.still.1) ∙ ap (all_known m n) (sym all))
@@ -275,3 +244,8 @@ finish-stands m n lows o u due rs bytes h c below =
     let payload : port_payload c h.taken ≡ port_payload c (events m bytes) =
     sym (ap (port_payload c) h.events_are ∙ (port_payload-append c h.taken (remarked (o - 1) due) ∙ (ap (λ z. port_payload c h.taken ++ z) (port_payload-notes c (o - 1) due) ∙ append-nil (port_payload c h.taken)))) in
     subst (λ es. Stands (rs c) es (so_far es)) payload (every-stands n rs h.taken (all_known m n bytes) s none c below)
+
+-- the marks of what one port's reader tells
+pub port_signs-port : (c : ℕ) (ts : List Told) → port_signs (map (λ t. (Some c, t)) ts) ≡ told_signs ts
+port_signs-port c [] = refl
+port_signs-port c (t ∷ ts) = ap (λ z. sign_in t ++ z) (port_signs-port c ts)

@@ -1,20 +1,23 @@
 -- What a reader of packets promises, over the byte-stream reader of each port: the relation between what it keeps, the bytes that
--- it took, and what it told of them. Nobody has to believe it: a fresh reader stands for nothing, each call keeps it, and each
--- answer is bound to the readings of all ports and the notes (`ports_so_far`).
+-- it took, and what it told of them (the readings of all ports and the notes: `ports_so_far`).
 --
 --   Whole U                    what a reader keeps
 --   Holds m n now bs told      it took these bytes and told this
---   Goes known ..              what a call took, what it answered, and that the reader holds for both
---   NextSays ..                what a byte-stream reader's call promises of any payload
-use Rattle.std.specs.Prelude.{◌≡◌, ℕ, ◌+◌, ◌-◌, ◌<◌, List, [], ◌++◌, map, length, Option, ◌⊎◌}
+--   bare p                     what is told, with its port if it has one
+--   port_answer result         the same of what an answer tells, a run as its bytes
+--   port_signs                 its marks
+--   IsLongestOf left seen      a run is the longest that stands side by side
+--   BreaksBefore ..            what a status breaks is told of before the status is taken
+use Rattle.std.specs.Prelude.{◌≡◌, ℕ, ◌-◌, ◌<◌, true, length, List, [], ◌∷◌, ◌++◌, map, Option, Some, None, ◌⊎◌}
 use Rattle.mb_message.specs.declared.note.Note.{Note}
-use Rattle.mb_stream.specs.Payload.{Entry, heard_from}
-use Rattle.mb_stream.specs.Told.{Told, Known}
-use Rattle.mb_stream.specs.Reading.{so_far}
-use Rattle.mb_stream.specs.Working.{RisesFrom}
-use Rattle.mb_din.specs.Reader as din
-use Rattle.mb_din.specs.Reader.{Stands, IsFront}
-use Rattle.mb_din.specs.State.{State}
+use Rattle.mb_message.specs.declared.event.PortSeen.{PortSeen}
+use Rattle.mb_message.specs.declared.event.PortSeen.TheVariants as port_seen
+use Rattle.mb_message.specs.Signs.{Sign}
+use Rattle.mb_stream.specs.Told.{Told, Notes, Known}
+use Rattle.mb_stream.specs.Reading.{so_far, told_signs}
+use Rattle.mb_stream.specs.ReaderLaw.{told_by, breaks, StatusNext, IsLongest}
+use Rattle.mb_din.specs.Reader.{Stands}
+use Rattle.mb_din.specs.State.{State, Rests}
 use Rattle.mb_ports.specs.Events.{Event, Ported, ported, port_payload, ports_so_far}
 use Rattle.mb_ports.specs.Machine.{Machine, events, under_from, remarked}
 
@@ -53,27 +56,23 @@ all_known m n bytes = ports_so_far n (events m bytes)
 abbrev pub bare : Ported → Option ℕ × Told
 bare p = (p.port, p.known.told)
 
--- `known` gives what becomes known of a list of bytes, `now` says what the reader holds for afterwards
-pub record Goes (known : List ℕ → List Ported) (now : List ℕ → List Ported → Type 0) (input left : List ℕ) (seen : List (Option ℕ × Told)) (bytes : List ℕ) (told : List Ported) : Type 0 where
-  pub taken : List ℕ
-  pub front : input ≡ taken ++ left
-  pub fresh : List Ported
-  pub seen_is : map bare fresh ≡ seen
-  pub stands : now (bytes ++ taken) (told ++ fresh)
-  pub still : IsFront (told ++ fresh) (known (bytes ++ input))
+abbrev pub port_told_by : PortSeen → List (Option ℕ × Told)
+port_told_by (port_seen.Port c seen) = map (λ t. (Some c, t)) (told_by seen)
+port_told_by (port_seen.Unit n) = (None, Notes n.at n.kind) ∷ []
 
--- whatever was taken and told before, as long as what was told is a front of what is known of it with the input
-abbrev pub Tells : (known : List ℕ → List Ported) (was now : List ℕ → List Ported → Type 0) (input left : List ℕ) (seen : List (Option ℕ × Told)) → Type 0
-Tells known was now input left seen =
-    (bytes : List ℕ) (told : List Ported) → was bytes told → IsFront told (known (bytes ++ input)) → Goes known now input left seen bytes told
+abbrev pub port_answer : Option PortSeen → List (Option ℕ × Told)
+port_answer None = []
+port_answer (Some s) = port_told_by s
 
-abbrev pub AllTold : (known : List ℕ → List Ported) (was : List ℕ → List Ported → Type 0) (input : List ℕ) → Type 0
-AllTold known was input =
-    (bytes : List ℕ) (told : List Ported) → was bytes told → IsFront told (known (bytes ++ input)) → told ≡ known (bytes ++ input)
+abbrev pub port_signs : List (Option ℕ × Told) → List Sign
+port_signs seen = told_signs (map (λ s. s.1) seen)
 
-abbrev pub NextSays : (was now : State) (input left : List ℕ) → List Told → Type 0
-NextSays was now input left answer =
-    (moment : ℕ) (entries : List Entry) (told : List Known) (more : List Entry) →
-    Stands was entries told → RisesFrom (was.offset + length input) more →
-    IsFront told (so_far (entries ++ (heard_from was.offset moment input ++ more))) →
-    din.Goes was now moment input left answer entries told (heard_from was.offset moment input ++ more)
+-- `left` is what stands in the input of the packet's bytes that are still to come
+abbrev pub IsLongestOf : (left : List ℕ) → PortSeen → Type 0
+IsLongestOf left (port_seen.Port c seen) = IsLongest left seen
+IsLongestOf left (port_seen.Unit n) = Unit {0}
+
+-- the status still stands in the input, and nothing is begun, running or open on its port
+abbrev pub BreaksBefore : (readers : ℕ → State) (left : List ℕ) → PortSeen → Type 0
+BreaksBefore readers left (port_seen.Port c seen) = breaks (told_by seen) ≡ true → StatusNext left × Rests (readers c)
+BreaksBefore readers left (port_seen.Unit n) = Unit {0}

@@ -3,6 +3,8 @@ pub mod Denotation
 pub mod Groups
 pub mod Order
 pub mod Payload
+pub mod Puts
+pub mod ReaderLaw
 pub mod Reading
 pub mod Spelling
 pub mod Standing

@@ -3,7 +3,8 @@ use Rattle.std.proofs.Common.{◌≡◌, Bool, IsTrue, ℕ, ◌+◌, ◌-◌, �
 use Rattle.std.proofs.lemmas.List.{append-nil, take-append-drop, drop_at, length-take-le, take-append-le}
 use Rattle.mb_outside.specs.Contents.{Contents, Gives, after_read, after_write}
 use Rattle.mb_outside.specs.ContentsLaws.{after_read-none, after_read-twice, after_write-twice}
-use Rattle.mb_outside.specs.Taking.{IsFront, Wrote}
+use Rattle.mb_outside.specs.Taking.{Wrote}
+use Rattle.mb_message.specs.Front.{IsFront}
 use Rattle.mb_carrier.specs.Carrier.{whole}
 use Rattle.mb_carrier.proofs.SpecLaws.{front-trans}
 use Rattle.mb_top.proofs.JobLemmas.{command-stays, command-closes}

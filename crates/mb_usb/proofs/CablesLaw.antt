@@ -9,7 +9,7 @@ use Rattle.mb_stream.specs.Payload.{Spot, Entry, Heard, heard_from}
 use Rattle.mb_stream.specs.Told.{Notes, Known}
 use Rattle.mb_stream.specs.Order.{in_order}
 use Rattle.mb_stream.specs.Reading.{payload_told}
-use Rattle.mb_din.specs.Reader.{IsFront}
+use Rattle.mb_message.specs.Front.{IsFront}
 use Rattle.mb_ports.specs.Events.{Event, port_payload, unit_notes, Ported, ported, unported, known_of, below_from, port_told}
 use Rattle.mb_ports.specs.Machine.{Machine, remark, remarked, carried_by, spot, byte_events, events_from, events, Steady}
 use Rattle.mb_ports.specs.Reader.{all_known}

@@ -6,9 +6,8 @@ use Rattle.std.proofs.lemmas.Bool.{cases_lt}
 use Rattle.mb_stream.specs.Payload.{Entry}
 use Rattle.mb_stream.specs.Told.{Told}
 use Rattle.mb_stream.specs.Reading.{so_far}
-use Rattle.mb_din.specs.Reader.{Stands, IsFrontTaken}
+use Rattle.mb_din.specs.Reader.{Stands, IsFrontTaken, NextSays}
 use Rattle.mb_din.specs.State.{State}
-use Rattle.mb_ports.specs.Reader.{NextSays}
 use Rattle.mb_usb.specs.declared.under.Packet.{Packet}
 use Rattle.mb_usb.specs.Under.{left_of, packet_after, packet_behind}
 use Rattle.mb_usb.specs.Hands.{Hands, piece_of, placed}

@@ -5,9 +5,8 @@ use Rattle.std.proofs.lemmas.List.{append-nil, length-take}
 use Rattle.std.proofs.lemmas.Bool.{cases_lt}
 use Rattle.mb_message.specs.declared.event.Seen.{Seen}
 use Rattle.mb_stream.specs.Told.{Told}
-use Rattle.mb_din.specs.Reader.{IsLongest, StatusNext}
+use Rattle.mb_stream.specs.ReaderLaw.{IsLongest, StatusNext, answer}
 use Rattle.mb_din.specs.State.{State}
-use Rattle.mb_din.specs.Turn.{answer}
 use Rattle.mb_usb.specs.declared.under.Under.{Under}
 use Rattle.mb_usb.specs.declared.under.Under.TheVariants.{Between, One, Two, Three}
 use Rattle.mb_usb.specs.declared.under.Packet.{Packet}

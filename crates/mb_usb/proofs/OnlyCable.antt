@@ -8,14 +8,15 @@ use Rattle.mb_stream.specs.Payload.{Entry}
 use Rattle.mb_stream.specs.Groups.{last_of}
 use Rattle.mb_stream.specs.Told.{Told, Notes, Known, at_end}
 use Rattle.mb_stream.specs.Reading.{so_far}
+use Rattle.mb_stream.proofs.ReaderLemmas.{tells-refl, tells-trans, tells-as}
 use Rattle.mb_din.specs.Reader.{Stands}
 use Rattle.mb_din.specs.State as din
 use Rattle.mb_din.specs.State.{State}
-use Rattle.mb_din.specs.Turn.{answer}
+use Rattle.mb_stream.specs.ReaderLaw.{answer, Tells, AllTold, bare_told}
 use Rattle.mb_ports.specs.Events.{Ported}
-use Rattle.mb_ports.specs.Reader.{Holds, all_known, Tells}
-use Rattle.mb_ports.specs.OnePort.{one_known, GoesOne, TellsOne, AllToldOne}
-use Rattle.mb_ports.proofs.ReaderLaw.{tells-refl, tells-trans, start-holds}
+use Rattle.mb_ports.specs.Reader.{Holds, all_known, bare}
+use Rattle.mb_ports.specs.OnePort.{one_known}
+use Rattle.mb_ports.proofs.ReaderLaw.{start-holds}
 use Rattle.mb_ports.proofs.OnePortLaw.{tells-one, all_told-one, finish-one}
 use Rattle.mb_usb.specs.declared.under.Under.{Under}
 use Rattle.mb_usb.specs.declared.under.Under.TheVariants.{Between}
@@ -40,18 +41,18 @@ only_known c bytes = all_known (usb (only_cable c)) 1 bytes
 
 -- what the loop did so far
 pub record OnlyTells (c : ℕ) (p : Packet) (r : State) (q : Packet) (s : State) (input left : List ℕ) (seen : List (Option ℕ × Told)) : Type 0 where
-  pub tells : Tells (only_known c) (OnlyHolds c p r) (OnlyHolds c q s) input left seen
+  pub tells : Tells bare (only_known c) (OnlyHolds c p r) (OnlyHolds c q s) input left seen
 
 pub begins : (c : ℕ) (p : Packet) (r : State) (input : List ℕ) → OnlyTells c p r p r input input []
-begins c p r input = record { tells = tells-refl (only_known c) (OnlyHolds c p r) input }
+begins c p r input = record { tells = tells-refl bare (only_known c) (OnlyHolds c p r) input }
 
 undue : (c : ℕ) (p q : Packet) (r : State) → p.due ≡ None → q ≡ record p { due = None } → OnlyHolds c p r ≡ OnlyHolds c q r
 undue c p q r e same = ap (λ (z : Packet). OnlyHolds c z r) (same-undue p q e same)
 
 pub join : (c : ℕ) (a p q : Packet) (x r s : State) (start input left : List ℕ) (seen : List (Option ℕ × Told)) → OnlyTells c a x p r start input [] →
-    Tells (only_known c) (OnlyHolds c p r) (OnlyHolds c q s) input left seen → OnlyTells c a x q s start left seen
+    Tells bare (only_known c) (OnlyHolds c p r) (OnlyHolds c q s) input left seen → OnlyTells c a x q s start left seen
 join c a p q x r s start input left seen before step = record {
-  tells = tells-trans (only_known c) (OnlyHolds c a x) (OnlyHolds c p r) (OnlyHolds c q s) start input left [] seen before.tells step;
+  tells = tells-trans bare (only_known c) (OnlyHolds c a x) (OnlyHolds c p r) (OnlyHolds c q s) start input left [] seen before.tells step;
 }
 
 pub then-due : (c : ℕ) (a p q : Packet) (x r : State) (start input : List ℕ) (n : Note) → OnlyTells c a x p r start input [] → p.due ≡ Some n → q ≡ record p { due = None } →
@@ -115,24 +116,19 @@ then-carry c a p q t x r s start input rest left b seen before due same of_it fi
 
 -- The clauses.
 
-as-literal : (c : ℕ) (was now : List ℕ → List Known → Type 0) (input left : List ℕ) (told : List Told) → TellsOne (one_known (usb (only_cable c))) was now input left told → TellsOne (cable_so_far c) was now input left told
-as-literal c was now input left told tells bytes ks h front =
-    let g : GoesOne (one_known (usb (only_cable c))) now input left told bytes ks = tells bytes ks h (front.0, only_law c (bytes ++ input) ∙ front.1) in
-    record { taken = g.taken; front = g.front; fresh = g.fresh; answer_is = g.answer_is; stands = g.stands; still = (g.still.0, sym (only_law c (bytes ++ input)) ∙ g.still.1) }
-
 pub tells-literal : (c : ℕ) (a q : Packet) (x s : State) (start left : List ℕ) (seen : List (Option ℕ × Told)) (told : List Told) → map (λ y. y.1) seen ≡ told → OnlyTells c a x q s start left seen →
-    TellsOne (cable_so_far c) (CableHolds c a x) (CableHolds c q s) start left told
+    Tells bare_told (cable_so_far c) (CableHolds c a x) (CableHolds c q s) start left told
 tells-literal c a q x s start left seen told e h =
-    as-literal c (CableHolds c a x) (CableHolds c q s) start left told
+    tells-as bare_told (one_known (usb (only_cable c))) (cable_so_far c) (CableHolds c a x) (CableHolds c q s) start left told (only_law c)
     (tells-one (usb (only_cable c)) (only_low c) (whole_of a (λ _. x)) (whole_of q (λ _. s)) start left seen told e h.tells)
 
 pub tolds : (ts : List Told) → map (λ (y : Option ℕ × Told). y.1) (map (λ y. (Some 0, y)) ts) ≡ ts
 tolds [] = refl
 tolds (t ∷ ts) = ap (λ z. t ∷ z) (tolds ts)
 
-pub all_told-literal : (c : ℕ) (a q : Packet) (x s : State) (start input : List ℕ) → OnlyTells c a x q s start input [] → q.due ≡ None → input ≡ [] → AllToldOne (cable_so_far c) (CableHolds c a x) start
+pub all_told-literal : (c : ℕ) (a q : Packet) (x s : State) (start input : List ℕ) → OnlyTells c a x q s start input [] → q.due ≡ None → input ≡ [] → AllTold (cable_so_far c) (CableHolds c a x) start
 all_told-literal c a q x s start input h due none bytes told holds front =
-    let nothing : Tells (only_known c) (OnlyHolds c a x) (OnlyHolds c q s) start [] [] = subst (λ (z : List ℕ). Tells (only_known c) (OnlyHolds c a x) (OnlyHolds c q s) start z []) none h.tells in
+    let nothing : Tells bare (only_known c) (OnlyHolds c a x) (OnlyHolds c q s) start [] [] = subst (λ (z : List ℕ). Tells bare (only_known c) (OnlyHolds c a x) (OnlyHolds c q s) start z []) none h.tells in
     all_told-one (usb (only_cable c)) (only_low c) (whole_of a (λ _. x)) start (step-none (only_cable c) 1 q (λ _. s) (OnlyHolds c a x) start due nothing) bytes told holds (front.0, only_law c (bytes ++ start) ∙ front.1) ∙
     only_law c (bytes ++ start)
 
@@ -140,11 +136,11 @@ abbrev pub cable_state : ℕ → Packet → State → CableState
 cable_state cable packet reader = record { cable = cable; packet = packet; reader = reader }
 
 pub next-tells : (was : CableState) (c : ℕ) (p q : Packet) (r s : State) (input left : List ℕ) (told : List Told) → cable_state c p r ≡ was →
-    TellsOne (cable_so_far c) (CableHolds c p r) (CableHolds c q s) input left told → CableTells was (cable_state c q s) input left told
+    Tells bare_told (cable_so_far c) (CableHolds c p r) (CableHolds c q s) input left told → CableTells was (cable_state c q s) input left told
 next-tells was c p q r s input left told e tells = subst (λ (z : CableState). CableTells z (cable_state c q s) input left told) e tells
 
 pub next-all_told : {X : Type 0} (was : CableState) (c : ℕ) (p : Packet) (r : State) (input : List ℕ) (result : Option X) → cable_state c p r ≡ was →
-    IfNone result (AllToldOne (cable_so_far c) (CableHolds c p r) input) → IfNone result (CableAllTold was input)
+    IfNone result (AllTold (cable_so_far c) (CableHolds c p r) input) → IfNone result (CableAllTold was input)
 next-all_told was c p r input result e all = subst (λ (z : CableState). IfNone result (CableAllTold z input)) e all
 
 pub new-stands : (c : ℕ) (p : Packet) (r : State) → p ≡ record { offset = 0; under = Between; due = None } → Stands r [] [] → CableHolds c p r [] []

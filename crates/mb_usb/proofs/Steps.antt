@@ -6,7 +6,8 @@ use Rattle.mb_stream.specs.Told.{Told, Notes}
 use Rattle.mb_din.specs.State.{State}
 use Rattle.mb_ports.specs.Events.{Ported}
 use Rattle.mb_ports.specs.Machine.{under_from, due_after}
-use Rattle.mb_ports.specs.Reader.{Whole, Holds, all_known, Goes, Tells, AllTold}
+use Rattle.mb_ports.specs.Reader.{Whole, Holds, all_known, bare}
+use Rattle.mb_stream.specs.ReaderLaw.{Tells, AllTold}
 use Rattle.mb_ports.proofs.MachineLaw.{LowPorts}
 use Rattle.mb_ports.proofs.ReaderLaw.{whole, tells-due, tells-pass, all_told-none}
 use Rattle.mb_ports.proofs.CarryLaw.{Call, tells-carry}
@@ -18,16 +19,6 @@ use Rattle.mb_usb.specs.Cables.{listed, port_by, usb, whole_of}
 use Rattle.mb_usb.proofs.HandsLemmas.{packet_behind-offset}
 use Rattle.mb_usb.proofs.CablesLaw.{steady}
 
--- a reader holds for the same, said by another list of what is known
-pub tells-as : (known also : List ℕ → List Ported) (was now : List ℕ → List Ported → Type 0) (input left : List ℕ) (seen : List (Option ℕ × Told)) → ((bs : List ℕ) → known bs ≡ also bs) →
-    Tells known was now input left seen → Tells also was now input left seen
-tells-as known also was now input left seen same tells bytes told h front =
-    let g : Goes known now input left seen bytes told = tells bytes told h (front.0, same (bytes ++ input) ∙ front.1) in
-    record { taken = g.taken; front = g.front; fresh = g.fresh; seen_is = g.seen_is; stands = g.stands; still = (g.still.0, sym (same (bytes ++ input)) ∙ g.still.1) }
-
-pub all_told-as : (known also : List ℕ → List Ported) (was : List ℕ → List Ported → Type 0) (input : List ℕ) → ((bs : List ℕ) → known bs ≡ also bs) → AllTold known was input → AllTold also was input
-all_told-as known also was input same all bytes told h front = all bytes told h (front.0, same (bytes ++ input) ∙ front.1) ∙ same (bytes ++ input)
-
 -- a packet without a note that is due
 plain : (p : Packet) (rs : ℕ → State) → p.due ≡ None → whole_of p rs ≡ whole p.offset p.under [] rs
 plain p rs e = ap (λ (d : Option Note). whole p.offset p.under (listed d) rs) e
@@ -36,9 +27,9 @@ abbrev HoldsAt : (ℕ → Option ℕ) → ℕ → Packet → (ℕ → State) →
 HoldsAt f n p rs bytes told = Holds (usb f) n (whole_of p rs) bytes told
 
 pub step-due : (f : ℕ → Option ℕ) (n : ℕ) → LowPorts (usb f) n → (p q : Packet) (rs : ℕ → State) (x : Note) (input : List ℕ) → p.due ≡ Some x → q ≡ record p { due = None } →
-    Tells (all_known (usb f) n) (HoldsAt f n p rs) (HoldsAt f n q rs) input input ((None, Notes x.at x.kind) ∷ [])
+    Tells bare (all_known (usb f) n) (HoldsAt f n p rs) (HoldsAt f n q rs) input input ((None, Notes x.at x.kind) ∷ [])
 step-due f n lows p q rs x input e same =
-    subst (λ (z : Packet). Tells (all_known (usb f) n) (HoldsAt f n p rs) (HoldsAt f n z rs) input input ((None, Notes x.at x.kind) ∷ [])) (sym same)
+    subst (λ (z : Packet). Tells bare (all_known (usb f) n) (HoldsAt f n p rs) (HoldsAt f n z rs) input input ((None, Notes x.at x.kind) ∷ [])) (sym same)
     (tells-due (usb f) n lows p.offset p.under rs input (listed p.due) [] x (ap listed e))
 
 -- nothing was due
@@ -46,11 +37,11 @@ pub same-undue : (p q : Packet) → p.due ≡ None → q ≡ record p { due = No
 same-undue p q e same = ap (λ (d : Option Note). record { offset = p.offset; under = p.under; due = d }) e ∙ sym same
 
 pub step-pass : (f : ℕ → Option ℕ) (n : ℕ) → LowPorts (usb f) n → (p q : Packet) (rs : ℕ → State) (b : ℕ) (input left : List ℕ) → p.due ≡ None → port_by (left_of p.under) (f (head_of p.under / 16)) ≡ None → q ≡ packet_after p b → input ≡ b ∷ left →
-    Tells (all_known (usb f) n) (HoldsAt f n p rs) (HoldsAt f n q rs) input left []
+    Tells bare (all_known (usb f) n) (HoldsAt f n p rs) (HoldsAt f n q rs) input left []
 step-pass f n lows p q rs b input left due none same front =
-    subst (λ (z : List ℕ). Tells (all_known (usb f) n) (HoldsAt f n p rs) (HoldsAt f n q rs) z left []) (sym front)
-    (subst (λ (z : Packet). Tells (all_known (usb f) n) (HoldsAt f n p rs) (HoldsAt f n z rs) (b ∷ left) left []) (sym same)
-    (subst (λ (z : Whole Under). Tells (all_known (usb f) n) (Holds (usb f) n z) (HoldsAt f n (packet_after p b) rs) (b ∷ left) left []) (sym (plain p rs due))
+    subst (λ (z : List ℕ). Tells bare (all_known (usb f) n) (HoldsAt f n p rs) (HoldsAt f n q rs) z left []) (sym front)
+    (subst (λ (z : Packet). Tells bare (all_known (usb f) n) (HoldsAt f n p rs) (HoldsAt f n z rs) (b ∷ left) left []) (sym same)
+    (subst (λ (z : Whole Under). Tells bare (all_known (usb f) n) (Holds (usb f) n z) (HoldsAt f n (packet_after p b) rs) (b ∷ left) left []) (sym (plain p rs due))
     (tells-pass (usb f) n lows p.offset p.under rs b left none)))
 
 behind-under : (f : ℕ → Option ℕ) (p : Packet) (bs : List ℕ) → (packet_behind p bs).under ≡ under_from (usb f) p.under bs
@@ -77,7 +68,7 @@ piece-some (suc left) b rest h = omega arith
 
 pub step-carry : (f : ℕ → Option ℕ) (n : ℕ) → LowPorts (usb f) n → (p q : Packet) (rs readers : ℕ → State) (port b : ℕ) (input rest left : List ℕ) (answer : List Told) → p.due ≡ None →
     port_by (left_of p.under) (f (head_of p.under / 16)) ≡ Some port → left_of p.under ≢ 0 → input ≡ b ∷ rest → Hands p q (rs port) (readers port) input left answer → ((c : ℕ) → c < n → (c ≡ port → ⊥) → readers c ≡ rs c) →
-    Tells (all_known (usb f) n) (HoldsAt f n p rs) (HoldsAt f n q readers) input left (map (λ t. (Some port, t)) answer)
+    Tells bare (all_known (usb f) n) (HoldsAt f n p rs) (HoldsAt f n q readers) input left (map (λ t. (Some port, t)) answer)
 step-carry f n lows p q rs readers port b input rest left answer due here over first h others =
     let many = left_of p.under in
     let seen = map (λ t. (Some port, t)) answer in
@@ -86,19 +77,20 @@ step-carry f n lows p q rs readers port b input rest left answer due here over f
       fits = omega (arith, length-take many input);
       some = subst (λ (z : List ℕ). 0 < length (take many z)) (sym first) (piece-some many b rest over);
       cut = h.piece;
+      offset = h.offset;
       stays = h.stays;
       says = h.says;
       others = others;
     } in
     let tells = tells-carry (usb f) n lows p.offset p.under rs readers port many (piece_of p input) (drop many input) h.kept h.taken answer call in
-    subst (λ (z : Packet). Tells (all_known (usb f) n) (HoldsAt f n p rs) (HoldsAt f n z readers) input left seen) (sym h.packet)
-    (subst (λ (z : List ℕ). Tells (all_known (usb f) n) (HoldsAt f n p rs) (HoldsAt f n (packet_behind p h.taken) readers) input z seen) (sym h.left_is)
-    (subst (λ (z : List ℕ). Tells (all_known (usb f) n) (HoldsAt f n p rs) (HoldsAt f n (packet_behind p h.taken) readers) z (h.kept ++ drop many input) seen) (take-append-drop many input)
-    (subst (λ (z : Whole Under). Tells (all_known (usb f) n) (HoldsAt f n p rs) (Holds (usb f) n z) (piece_of p input ++ drop many input) (h.kept ++ drop many input) seen) (behind-whole f p readers h.taken due)
-    (subst (λ (z : Whole Under). Tells (all_known (usb f) n) (Holds (usb f) n z) (Holds (usb f) n (whole (p.offset + length h.taken) (under_from (usb f) p.under h.taken) (due_after (usb f) p.under [] p.offset h.taken) readers)) (piece_of p input ++ drop many input) (h.kept ++ drop many input) seen) (sym (plain p rs due))
+    subst (λ (z : Packet). Tells bare (all_known (usb f) n) (HoldsAt f n p rs) (HoldsAt f n z readers) input left seen) (sym h.packet)
+    (subst (λ (z : List ℕ). Tells bare (all_known (usb f) n) (HoldsAt f n p rs) (HoldsAt f n (packet_behind p h.taken) readers) input z seen) (sym h.left_is)
+    (subst (λ (z : List ℕ). Tells bare (all_known (usb f) n) (HoldsAt f n p rs) (HoldsAt f n (packet_behind p h.taken) readers) z (h.kept ++ drop many input) seen) (take-append-drop many input)
+    (subst (λ (z : Whole Under). Tells bare (all_known (usb f) n) (HoldsAt f n p rs) (Holds (usb f) n z) (piece_of p input ++ drop many input) (h.kept ++ drop many input) seen) (behind-whole f p readers h.taken due)
+    (subst (λ (z : Whole Under). Tells bare (all_known (usb f) n) (Holds (usb f) n z) (Holds (usb f) n (whole (p.offset + length h.taken) (under_from (usb f) p.under h.taken) (due_after (usb f) p.under [] p.offset h.taken) readers)) (piece_of p input ++ drop many input) (h.kept ++ drop many input) seen) (sym (plain p rs due))
     tells))))
 
 pub step-none : (f : ℕ → Option ℕ) (n : ℕ) (q : Packet) (rs : ℕ → State) (was : List ℕ → List Ported → Type 0) (input : List ℕ) → q.due ≡ None →
-    Tells (all_known (usb f) n) was (HoldsAt f n q rs) input [] [] → AllTold (all_known (usb f) n) was input
+    Tells bare (all_known (usb f) n) was (HoldsAt f n q rs) input [] [] → AllTold (all_known (usb f) n) was input
 step-none f n q rs was input due tells =
-    all_told-none (usb f) n q.offset q.under rs was input (subst (λ (z : Whole Under). Tells (all_known (usb f) n) was (Holds (usb f) n z) input [] []) (plain q rs due) tells)
+    all_told-none (usb f) n q.offset q.under rs was input (subst (λ (z : Whole Under). Tells bare (all_known (usb f) n) was (Holds (usb f) n z) input [] []) (plain q rs due) tells)

@@ -10,7 +10,8 @@ use Rattle.mb_din.specs.State as din
 use Rattle.mb_din.specs.State.{State}
 use Rattle.mb_ports.specs.Events.{Ported, port_payload}
 use Rattle.mb_ports.specs.Machine.{events, under_from}
-use Rattle.mb_ports.specs.Reader.{Tells, AllTold, all_known}
+use Rattle.mb_ports.specs.Reader.{all_known, bare}
+use Rattle.mb_stream.specs.ReaderLaw.{Tells, AllTold}
 use Rattle.mb_ports.proofs.ReaderLaw.{start-holds, finish-stands}
 use Rattle.mb_usb.specs.declared.under.Under.TheVariants.{Between}
 use Rattle.mb_usb.specs.declared.under.Packet.{Packet}
@@ -24,7 +25,7 @@ abbrev pub usb_state : Packet → List State → UsbState
 usb_state packet readers = record { packet = packet; readers = readers }
 
 pub next-tells : (was : UsbState) (p q : Packet) (dins next : List State) (input left : List ℕ) (seen : List (Option ℕ × Told)) → usb_state p dins ≡ was →
-    Tells all_cables_so_far (UsbHolds p dins) (UsbHolds q next) input left seen → UsbTells was (usb_state q next) input left seen
+    Tells bare all_cables_so_far (UsbHolds p dins) (UsbHolds q next) input left seen → UsbTells was (usb_state q next) input left seen
 next-tells was p q dins next input left seen e tells =
     subst (λ (s : UsbState). UsbTells s (usb_state q next) input left seen) e tells
 

@@ -1,17 +1,17 @@
 -- A packet that was taken whole: the same as its bytes one after the other.
 use Rattle.std.proofs.Common.{◌≡◌, ◌↔◌, ℕ, zero, suc, ◌+◌, ◌-◌, ◌/◌, ◌%◌, ◌<◌, ◌≤◌, ◌≢◌, ◌⊎◌, inl, inr, Bool, true, false, not, ◌&&◌, ◌||◌, ◌==◌, nat_le, if◌then◌else◌, Option, Some, None, OnSome, IsSome, List, [], ◌∷◌, ◌++◌, length, take, drop, map, get_or, refl, sym, ◌∙◌, ap, ap₂, subst, arith, append-nil, length-append}
 use Rattle.std.proofs.lemmas.Bool.Decides.{nat_tests}
-use Rattle.std.proofs.lemmas.List.{take_all}
+use Rattle.std.proofs.lemmas.List.{take_all, length-take}
 use Rattle.mb_message.specs.Bytes.{is_data}
 use Rattle.mb_message.specs.declared.note.Note.{Note}
 use Rattle.mb_message.specs.declared.event.Seen.{Seen}
 use Rattle.mb_message.specs.declared.note.NoteKind.TheVariants.{ReservedCin, CinMismatch}
 use Rattle.mb_stream.specs.Told.{Told}
-use Rattle.mb_din.specs.Reader.{TakesWhole, put_to, is_all_data}
-use Rattle.mb_din.specs.Turn.{answer}
+use Rattle.mb_stream.specs.Reading.{told_signs}
+use Rattle.mb_din.specs.Reader.{TakesWhole, put_to, is_all_data, NextSays}
+use Rattle.mb_stream.specs.ReaderLaw.{answer, Tells}
 use Rattle.mb_din.specs.State.{State}
-use Rattle.mb_ports.specs.Reader.{Tells, NextSays}
-use Rattle.mb_ports.proofs.ReaderLaw.{tells-trans}
+use Rattle.mb_stream.proofs.ReaderLemmas.{tells-trans}
 use Rattle.mb_usb.specs.declared.under.Under.{Under}
 use Rattle.mb_usb.specs.declared.under.Under.TheVariants.{Between, One, Two, Three}
 use Rattle.mb_usb.specs.declared.under.Packet.{Packet}
@@ -27,17 +27,18 @@ use Rattle.mb_usb.proofs.Steps.{step-pass, step-carry}
 use Rattle.mb_usb.proofs.EachCable.{carried-by}
 use Rattle.mb_usb.proofs.Longest.{used-three}
 use Rattle.mb_usb.proofs.OnlyCable.{OnlyTells, OnlyHolds, only_known, only-is, join, then-none, then-pass, pass-behind, undue-behind}
+use Rattle.mb_ports.specs.Reader.{bare}
 
 abbrev packet : ℕ → Under → Packet
 packet o u = record { offset = o; under = u; due = None }
 
 abbrev Goes_on : (c : ℕ) (p : Packet) (r : State) (q : Packet) (s : State) (input left : List ℕ) (seen : List (Option ℕ × Told)) → Type 0
-Goes_on c p r q s input left seen = Tells (only_known c) (OnlyHolds c p r) (OnlyHolds c q s) input left seen
+Goes_on c p r q s input left seen = Tells bare (only_known c) (OnlyHolds c p r) (OnlyHolds c q s) input left seen
 
 then_on : (c : ℕ) (p : Packet) (r : State) (q : Packet) (s : State) (t : Packet) (input between left : List ℕ) (seen : List (Option ℕ × Told)) → Goes_on c p r q s input between seen → Goes_on c q s t s between left [] →
     Goes_on c p r t s input left seen
 then_on c p r q s t input between left seen f g =
-    subst (λ z. Goes_on c p r t s input left z) (append-nil seen) (tells-trans (only_known c) (OnlyHolds c p r) (OnlyHolds c q s) (OnlyHolds c t s) input between left seen [] f g)
+    subst (λ z. Goes_on c p r t s input left z) (append-nil seen) (tells-trans bare (only_known c) (OnlyHolds c p r) (OnlyHolds c q s) (OnlyHolds c t s) input between left seen [] f g)
 
 -- The notes: none where the number is used, and the bytes suit it.
 
@@ -137,7 +138,7 @@ packet-step c p q r s input left told due w =
     let last : packet (p.offset + 1 + 1 + 1 + 1) Between ≡ q = ap (λ z. packet z Between) end ∙ sym w.behind in
     let front : Goes_on c (packet p.offset Between) r (packet (p.offset + 1) (One w.head)) r (w.head ∷ (w.bytes ++ left)) (w.bytes ++ left) [] = head_step c p.offset w.head r (w.bytes ++ left) w.carries.some in
     let all : Goes_on c (packet p.offset Between) r (packet (p.offset + 1 + 1 + 1 + 1) Between) s (w.head ∷ (w.bytes ++ left)) left seen =
-    tells-trans (only_known c) (OnlyHolds c (packet p.offset Between) r) (OnlyHolds c (packet (p.offset + 1) (One w.head)) r) (OnlyHolds c (packet (p.offset + 1 + 1 + 1 + 1) Between) s) (w.head ∷ (w.bytes ++ left)) (w.bytes ++ left) left [] seen front (by_bytes c p.offset w.head r s told w.bytes left w.of w.three w.carries) in
+    tells-trans bare (only_known c) (OnlyHolds c (packet p.offset Between) r) (OnlyHolds c (packet (p.offset + 1) (One w.head)) r) (OnlyHolds c (packet (p.offset + 1 + 1 + 1 + 1) Between) s) (w.head ∷ (w.bytes ++ left)) (w.bytes ++ left) left [] seen front (by_bytes c p.offset w.head r s told w.bytes left w.of w.three w.carries) in
     subst (λ (z : List ℕ). Goes_on c p r q s z left seen) (sym w.front)
     (subst (λ (z : Packet). Goes_on c z r q s (w.head ∷ (w.bytes ++ left)) left seen) (sym first)
     (subst (λ (z : Packet). Goes_on c (packet p.offset Between) r z s (w.head ∷ (w.bytes ++ left)) left seen) last all))
@@ -314,3 +315,8 @@ front-three [] few = absurd (omega arith)
 front-three (a ∷ []) few = absurd (omega arith)
 front-three (a ∷ b ∷ []) few = absurd (omega arith)
 front-three (a ∷ b ∷ d ∷ l) few = ap (λ z. a ∷ (b ∷ (d ∷ z))) (sym (take_all (length (a ∷ b ∷ d ∷ l) - 3) l (omega arith)))
+
+pub packet-few : (c : ℕ) (p q : Packet) (r s : State) (input left : List ℕ) (told : List Told) → WholePacket c p q r s input left told →
+    length (told_signs told) ≤ length input
+packet-few c p q r s input left told w =
+    omega (arith, w.carries.takes.few, length-take (used (w.head % 16)) w.bytes, ap length w.front, length-append w.bytes left)

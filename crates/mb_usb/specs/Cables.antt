@@ -8,17 +8,15 @@
 --   UsbTells, CableTells          what a call takes and tells
 use Rattle.std.specs.Prelude.{ℕ, ◌/◌, List, [], ◌∷◌, ◌++◌, map, flat_map, Option, Some, None, ◌==◌, nat_lt, if◌then◌else◌}
 use Rattle.mb_message.specs.declared.note.Note.{Note}
-use Rattle.mb_message.specs.declared.event.PortSeen.{PortSeen}
-use Rattle.mb_message.specs.declared.event.PortSeen.TheVariants.{Port, Unit}
-use Rattle.mb_stream.specs.Told.{Told, Notes, Known}
+use Rattle.mb_stream.specs.Told.{Told, Known}
 use Rattle.mb_stream.specs.Order.{in_order}
 use Rattle.mb_stream.specs.Reading.{payload_told}
 use Rattle.mb_din.specs.State.{State}
-use Rattle.mb_din.specs.Turn.{told_by}
+use Rattle.mb_stream.specs.ReaderLaw.{Tells, AllTold, bare_told}
 use Rattle.mb_ports.specs.Events.{Ported, ported, unported, known_of, below}
 use Rattle.mb_ports.specs.Machine.{Machine}
-use Rattle.mb_ports.specs.Reader.{Whole, Holds, Tells, AllTold}
-use Rattle.mb_ports.specs.OnePort.{HoldsOne, TellsOne, AllToldOne}
+use Rattle.mb_ports.specs.Reader.{Whole, Holds, bare}
+use Rattle.mb_ports.specs.OnePort.{HoldsOne}
 use Rattle.mb_usb.specs.declared.under.Under.{Under}
 use Rattle.mb_usb.specs.declared.under.Under.TheVariants.{Between}
 use Rattle.mb_usb.specs.declared.under.Packet.{Packet}
@@ -77,23 +75,14 @@ CableHolds cable packet reader bytes told = HoldsOne (usb (only_cable cable)) (w
 abbrev pub CableStands : CableState → List ℕ → List Known → Type 0
 CableStands now bytes told = CableHolds now.cable now.packet now.reader bytes told
 
--- what an answer tells, a run as its bytes, each with its cable
-abbrev pub port_told_by : PortSeen → List (Option ℕ × Told)
-port_told_by (Port c seen) = map (λ t. (Some c, t)) (told_by seen)
-port_told_by (Unit n) = (None, Notes n.at n.kind) ∷ []
-
-abbrev pub port_answer : Option PortSeen → List (Option ℕ × Told)
-port_answer None = []
-port_answer (Some s) = port_told_by s
-
 abbrev pub UsbTells : (was now : UsbState) (input left : List ℕ) → List (Option ℕ × Told) → Type 0
-UsbTells was now input left seen = Tells all_cables_so_far (UsbStands was) (UsbStands now) input left seen
+UsbTells was now input left seen = Tells bare all_cables_so_far (UsbStands was) (UsbStands now) input left seen
 
 abbrev pub UsbAllTold : UsbState → List ℕ → Type 0
 UsbAllTold was input = AllTold all_cables_so_far (UsbStands was) input
 
 abbrev pub CableTells : (was now : CableState) (input left : List ℕ) → List Told → Type 0
-CableTells was now input left answer = TellsOne (cable_so_far was.cable) (CableStands was) (CableStands now) input left answer
+CableTells was now input left answer = Tells bare_told (cable_so_far was.cable) (CableStands was) (CableStands now) input left answer
 
 abbrev pub CableAllTold : CableState → List ℕ → Type 0
-CableAllTold was input = AllToldOne (cable_so_far was.cable) (CableStands was) input
+CableAllTold was input = AllTold (cable_so_far was.cable) (CableStands was) input

@@ -1,16 +1,15 @@
 //! The reader of one cable.
 
-ghost use Rattle.std.specs.Prelude.{◌≡◌, ◌+◌, ◌*◌, ◌%◌, ◌<◌, ◌≤◌, ◌^◌, true, [], ℕ, List, length, take, OnSome, IfSome, IfNone};
+ghost use Rattle.std.specs.Prelude.{◌≡◌, ◌+◌, ◌*◌, ◌%◌, ◌<◌, ◌≤◌, ◌^◌, ◌↔◌, true, false, [], ℕ, List, length, take, OnSome, IsSome, IfSome, IfNone};
 ghost use Rattle.mb_stream.specs.Groups.{last_of};
 ghost use Rattle.mb_stream.specs.Told.{Known, at_end};
-ghost use Rattle.mb_din.specs.Turn.{answer};
-ghost use Rattle.mb_din.specs.Reader.{IsLongest, breaks, StatusNext};
+ghost use Rattle.mb_stream.specs.Reading.{told_signs};
+ghost use Rattle.mb_stream.specs.ReaderLaw.{answer, IsLongest, breaks, StatusNext, Tells, AllTold, bare_told};
 ghost use Rattle.mb_usb.specs.Under.{left_of, taken_of};
-ghost use Rattle.mb_din.specs.State.{State, fresh, Rests};
-ghost use Rattle.mb_ports.specs.OnePort.{TellsOne, AllToldOne};
+ghost use Rattle.mb_din.specs.State.{State, fresh, free_now, Rests};
 ghost use Rattle.mb_usb.specs.Reading.{cable_payload};
 ghost use Rattle.mb_usb.specs.Cables.{cable_so_far, CableHolds, CableStands, CableTells, CableAllTold};
-ghost use Rattle.mb_usb.specs.State.{owed_alone, owed_one, IsBehind};
+ghost use Rattle.mb_usb.specs.State.{cable_packets, cable_offset, cable_taken, cable_to_come, cable_owed, owed_alone, IsBehind};
 
 use crate::carry::carry;
 use crate::under::{Packet, is_of, taken};
@@ -44,7 +43,7 @@ impl CableReader {
     pub fn new(cable: u8) -> CableReader
         requires { cable < 16 }
         ensures cable { result.cable ≡ cable }
-        ensures offset { result.packet.offset ≡ 0 }
+        ensures offset { cable_offset result ≡ 0 }
         ensures stands { CableStands result [] [] }
     {
         CableReader {
@@ -60,42 +59,46 @@ impl CableReader {
     /// lent from the input, and is never empty.
     #[inline(always)]
     pub fn next<'a>(&mut self, input: &mut &'a [u8]) -> Option<Seen<'a>>
-        requires early { self.old.packet.offset + length input.old.now < 2 ^ 63 }
+        requires early { cable_offset self.old + length input.old.now < 2 ^ 63 }
         ensures cable { self.new.cable ≡ self.old.cable }
 
         // What it takes and answers, whatever was taken and told before.
         ensures tells { CableTells self.old self.new input.old.now input.new.now (answer result) }
         ensures some { OnSome result (answer result ≡ [] → ⊥) }
         ensures all_told { IfNone result (CableAllTold self.old input.old.now) }
-        ensures end { self.new.packet.offset + length input.new.now ≡ self.old.packet.offset + length input.old.now }
-        ensures longest { IfSome result (IsLongest (take (left_of self.new.packet.under) input.new.now)) }
+        ensures end { cable_offset self.new + length input.new.now ≡ cable_offset self.old + length input.old.now }
+        ensures longest { IfSome result (IsLongest (take (cable_to_come self.new) input.new.now)) }
         ensures none { IfNone result (input.new.now ≡ []) }
 
         // What a status breaks is told of before the status is taken: it still stands in the input, and nothing is begun,
         // running or open on the cable.
         ensures before { breaks (answer result) ≡ true → StatusNext input.new.now × Rests self.new.reader }
 
+        // No more marks than the input has bytes: where one byte is handed in, one mark at most comes back.
+        ensures few { length (told_signs (answer result)) ≤ length input.old.now }
+
         // A caller's loop ends by this.
-        ensures progress { OnSome result (2 * length input.new.now + owed_one self.new < 2 * length input.old.now + owed_one self.old) }
+        ensures progress { OnSome result (2 * length input.new.now + cable_owed self.new < 2 * length input.old.now + cable_owed self.old) }
     {
         read_cable(self.cable, &mut self.packet, &mut self.din, input)
     }
 
     /// What only the end of the recording makes known: a message that was begun and not finished, or an open SysEx. The
-    /// cable then stands as a fresh one does.
+    /// cable then stands as a fresh one does: a second call answers `None`.
     pub fn finish(&mut self) -> Option<Seen<'static>>
         ensures cable { self.new.cable ≡ self.old.cable }
         ensures told { (bytes : List ℕ) → CableStands self.old bytes (cable_so_far self.old.cable bytes) → answer result ≡ at_end (last_of (cable_payload self.old.cable bytes)) }
         ensures some { OnSome result (answer result ≡ [] → ⊥) }
+        ensures when { IsSome result ↔ (free_now self.old.reader ≡ false) }
         ensures as_fresh { self.new.reader ≡ record fresh { offset = self.old.reader.offset } }
-        ensures packets { self.new.packet ≡ self.old.packet }
+        ensures packets { cable_packets self.new ≡ cable_packets self.old }
     {
         self.din.finish()
     }
 
     /// How many bytes of an unfinished packet were taken, 0 to 3.
     pub fn partial(&self) -> u8
-        ensures state { result ≡ taken_of self.now.packet.under }
+        ensures state { result ≡ cable_taken self.now }
         ensures law { (bytes : List ℕ) (told : List Known) → CableStands self.now bytes told → result ≡ length bytes % 4 }
     {
         taken(self.packet.under)
@@ -112,13 +115,14 @@ fn read_cable<'a>(
 ) -> Option<Seen<'a>>
     requires early { packet.old.offset + length input.old.now < 2 ^ 63 }
     requires behind { IsBehind packet.old din.old }
-    ensures tells { TellsOne (cable_so_far own) (CableHolds own packet.old din.old) (CableHolds own packet.new din.new) input.old.now input.new.now (answer result) }
+    ensures tells { Tells bare_told (cable_so_far own) (CableHolds own packet.old din.old) (CableHolds own packet.new din.new) input.old.now input.new.now (answer result) }
     ensures some { OnSome result (answer result ≡ [] → ⊥) }
-    ensures all_told { IfNone result (AllToldOne (cable_so_far own) (CableHolds own packet.old din.old) input.old.now) }
+    ensures all_told { IfNone result (AllTold (cable_so_far own) (CableHolds own packet.old din.old) input.old.now) }
     ensures behind { IsBehind packet.new din.new }
     ensures end { packet.new.offset + length input.new.now ≡ packet.old.offset + length input.old.now }
     ensures longest { IfSome result (IsLongest (take (left_of packet.new.under) input.new.now)) }
     ensures before { breaks (answer result) ≡ true → StatusNext input.new.now × Rests din.new }
+    ensures few { length (told_signs (answer result)) ≤ length input.old.now }
     ensures none { IfNone result (input.new.now ≡ []) }
     ensures progress { OnSome result (2 * length input.new.now + owed_alone own packet.new din.new < 2 * length input.old.now + owed_alone own packet.old din.old) }
 {

@@ -1,8 +1,8 @@
 //! Bytes that a packet carries, handed to their cable's reader.
 
 ghost use Rattle.std.specs.Prelude.{◌≡◌, ◌+◌, ◌*◌, ◌<◌, ◌≤◌, ◌^◌, ◌≢◌, true, None, [], ℕ, List, length, take, drop, OnSome, IfSome, IfNone};
-ghost use Rattle.mb_din.specs.Turn.{answer};
-ghost use Rattle.mb_din.specs.Reader.{IsLongest, breaks, StatusNext};
+ghost use Rattle.mb_stream.specs.Reading.{told_signs};
+ghost use Rattle.mb_stream.specs.ReaderLaw.{answer, IsLongest, breaks, StatusNext};
 ghost use Rattle.mb_din.specs.State.{owed, Rests};
 ghost use Rattle.mb_usb.specs.Under.{left_of, is_rested};
 ghost use Rattle.mb_usb.specs.Hands.{Hands};
@@ -21,6 +21,7 @@ pub fn carry<'a>(packet: &mut Packet, din: &mut DinReader, input: &mut &'a [u8])
     ensures some { OnSome result (answer result ≡ [] → ⊥) }
     ensures longest { IfSome result (IsLongest (take (left_of packet.new.under) input.new.now)) }
     ensures before { breaks (answer result) ≡ true → StatusNext input.new.now × Rests din.new }
+    ensures few { length (told_signs (answer result)) ≤ length input.old.now }
     ensures none { IfNone result (input.new.now ≡ drop (left_of packet.old.under) input.old.now) }
     ensures end { packet.new.offset + length input.new.now ≡ packet.old.offset + length input.old.now }
     ensures at { din.new.offset ≡ packet.new.offset }

@@ -5,7 +5,7 @@ ghost use Rattle.mb_message.specs.Signs.{Sign, AbortSign};
 ghost use Rattle.mb_stream.specs.Denotation.{denotation};
 ghost use Rattle.mb_stream.specs.Reading.{notes_of, signs_of};
 ghost use Rattle.mb_stream.specs.Standing.{AreValid, suited, is_open};
-ghost use Rattle.mb_din.specs.Reader.{IsFront};
+ghost use Rattle.mb_message.specs.Front.{IsFront};
 ghost use Rattle.mb_usb.specs.Cables.{cable_so_far};
 ghost use Rattle.mb_usb.specs.Reading.{cable_payload, usb_reading, usb_whole};
 ghost use Rattle.mb_usb.specs.Running.{usb_at, usb_from, pending_from};

@@ -2,8 +2,7 @@
 //! the time.
 
 ghost use Rattle.std.specs.Prelude.{◌≡◌, ◌≢◌, ◌↔◌, ◌+◌, ◌/◌, ◌%◌, ◌<◌, ◌≤◌, ◌^◌, not, ◌&&◌, ◌==◌, nat_lt, true, false, None, [], ◌∷◌, ℕ, length, OnSome, IsSome, IfNone};
-ghost use Rattle.mb_din.specs.Turn.{answer};
-ghost use Rattle.mb_din.specs.Reader.{breaks};
+ghost use Rattle.mb_stream.specs.ReaderLaw.{answer, breaks};
 ghost use Rattle.std.specs.Bool.{OnTrue};
 ghost use Rattle.mb_usb.specs.Under.{is_of_cable};
 ghost use Rattle.mb_usb.specs.Whole.{WholeBytes, WholePacket, PassedOver, is_between, is_at_once, is_packet_at_once};

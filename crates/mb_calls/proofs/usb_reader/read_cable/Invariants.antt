@@ -1,11 +1,11 @@
 use Rattle.std.proofs.Common.{◌≡◌, ◌+◌, ◌*◌, length}
-use Rattle.mb_usb.specs.State.{owed_one}
+use Rattle.mb_usb.specs.State.{cable_offset, cable_owed}
 use Rattle.mb_calls.proofs.usb_reader.read_cable.Given as goal
 
 abbrev pub invariant-told : goal.invariant-told
 invariant-told l = record {
-  ends : l.reader.packet.offset + length l.rest ≡ l.initial.reader.packet.offset + length l.piece;
+  ends : cable_offset l.reader + length l.rest ≡ l.initiacable_offset l.reader + length l.piece;
 }
 
 abbrev pub decreases-told : goal.decreases-told
-decreases-told l = 2 * length l.rest + owed_one l.reader
+decreases-told l = 2 * length l.rest + cable_owed l.reader

@@ -1,14 +1,14 @@
 use Rattle.std.proofs.Common.{◌≡◌, ◌≢◌, ◌<◌, ◌∙◌, ℕ, None, Some, true, List, [], ◌∷◌, ap, subst, length, sym, refl, rules, arith}
 use Rattle.std.proofs.lemmas.List.{nil_from_length}
 use Rattle.mb_stream.specs.Told.{Notes}
-use Rattle.mb_din.specs.Turn.{answer}
+use Rattle.mb_stream.specs.ReaderLaw.{answer}
 use Rattle.mb_usb.specs.declared.under.Packet.{Packet}
 use Rattle.mb_usb.specs.Under.{left_of, is_of_cable}
 use Rattle.mb_usb.specs.State.{owed_alone}
 use Rattle.mb_usb.proofs.ReadLemmas.{shorter}
 use Rattle.mb_usb.specs.Whole.{PassedOver}
-use Rattle.mb_usb.proofs.WholePackets.{then-packet, then-over, over-behind, over-ends}
-use Rattle.mb_usb.proofs.OnlyCable.{kept-tells, kept-behind, kept-owes, begins, is-of, then-due, then-carry, then-none, tells-literal, tolds, all_told-literal, undue-behind, carry-behind, carry-owed, falls}
+use Rattle.mb_usb.proofs.WholePackets.{then-packet, then-over, over-behind, over-ends, packet-few}
+use Rattle.mb_usb.proofs.OnlyCable.{kept-tells, kept-behind, kept-owes, begins, is-of, then-due, then-carry, then-none, tells-literal, tolds, all_told-literal, undue-behind, carry-behind, carry-owed, falls, owed-bound}
 use Rattle.mb_usb.proofs.Steps.{same-undue}
 use Rattle.mb_usb.proofs.cable.read_cable.Goals as goal
 
@@ -94,3 +94,12 @@ returns-in-Some-carry-clause-progress c =
       (kept-owes c.args.own c.bytes.packet c.bytes.din c.take_packet.new.din c.bytes.input.now c.take_packet.new.input.now _ c.bytes.invariant.owes c.in_default-take_packet.ensures.reader c.in_default-take_packet.ensures.input),
       carry-owed c.args.own c.take_packet.new.packet c.carry.new.packet c.take_packet.new.din c.carry.new.din c.take_packet.new.input.now c.carry.new.input.now (answer (Some c.in-Some-carry.seen)) c.in-Some-carry.ensures.hands (ap (λ (p : Packet). p.due) (c.in_default-take_packet.ensures.packet ∙ c.take_due.ensures.told)) of_it c.in-Some-carry.ensures.progress,
     )
+
+pub returns-in-Some-take_packet-clause-few : goal.returns-in-Some-take_packet-clause-few
+returns-in-Some-take_packet-clause-few c =
+    let own = packet-few c.args.own _ _ _ _ c.bytes.input.now _ (answer (Some c.in-Some-take_packet.seen)) c.in-Some-take_packet.ensures.whole in
+    omega (arith, own, c.bytes.invariant.owes, owed-bound c.args.own c.args.packet.now c.args.din.now)
+
+pub returns-in-Some-carry-clause-few : goal.returns-in-Some-carry-clause-few
+returns-in-Some-carry-clause-few c =
+    omega (arith, c.in-Some-carry.ensures.few, ap length c.in_default-take_packet.ensures.input, c.bytes.invariant.owes, owed-bound c.args.own c.args.packet.now c.args.din.now)

@@ -1,8 +1,7 @@
 use Rattle.std.proofs.Common.{◌≡◌, length, min, take, drop, sym, subst, arith, rules}
 use Rattle.mb_usb.specs.Under.{left_of}
 use Rattle.mb_usb.specs.Hands.{Hands}
-use Rattle.mb_din.specs.Turn.{answer}
-use Rattle.mb_din.specs.Reader.{StatusNext}
+use Rattle.mb_stream.specs.ReaderLaw.{answer, StatusNext}
 use Rattle.mb_usb.proofs.HandsLemmas.{hands-kept, hands-end, hands-at}
 use Rattle.mb_usb.proofs.Longest.{longest, status-stays}
 use Rattle.mb_usb.proofs.carry.carry.Goals as goal

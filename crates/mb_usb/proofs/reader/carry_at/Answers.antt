@@ -1,5 +1,5 @@
 use Rattle.std.proofs.Common.{◌<◌, length, arith}
-use Rattle.mb_din.specs.Turn.{answer}
+use Rattle.mb_stream.specs.ReaderLaw.{answer}
 use Rattle.mb_usb.proofs.ReadLemmas.{hands-read, read-behind, read-owed, some_weaker}
 use Rattle.mb_usb.proofs.reader.carry_at.Goals as goal
 

@@ -4,7 +4,9 @@ use Rattle.mb_usb.specs.declared.under.Packet.{Packet}
 use Rattle.mb_usb.specs.Under.{left_of, head_of}
 use Rattle.mb_usb.specs.State.{reader_at}
 use Rattle.mb_usb.specs.Cables.{UsbHolds}
-use Rattle.mb_usb.proofs.ReadLemmas.{pass-behind, shorter, falls}
+use Rattle.mb_ports.proofs.ReaderLaw.{port_signs-port}
+use Rattle.mb_stream.specs.ReaderLaw.{answer}
+use Rattle.mb_usb.proofs.ReadLemmas.{pass-behind, shorter, falls, owed-bound}
 use Rattle.mb_usb.proofs.EachCable.{begins, then-due, then-pass, then-carry, then-none, then-all_told}
 use Rattle.mb_usb.proofs.reader.read.Goals as goal
 
@@ -61,3 +63,13 @@ returns-in-Some-carry_at-clause-tells c =
     let over : left_of c.take_due.new.self.under ≢ 0 = search rules in
     then-carry (UsbHolds c.args.packet.now c.args.dins.now) c.args.input.now.now c.bytes.input.now c.in-Some-split_first.rest.now c.carry_at.new.input.now c.bytes.packet c.take_due.new.self c.carry_at.new.packet c.bytes.dins c.carry_at.new.dins
     c.cable-port.result c.in-Some-split_first.byte.now (Some c.in-Some-carry_at.seen) c.bytes.invariant.tells (sym c.take_due.ensures.due ∙ c.in_default.is) c.take_due.ensures.told over c.cable-port.ensures.cable c.cable-port.ensures.below (search rules) c.in-Some-carry_at.ensures.hands c.carry_at.ensures.others
+
+pub returns-in-Some-carry_at-clause-few : goal.returns-in-Some-carry_at-clause-few
+returns-in-Some-carry_at-clause-few c =
+    omega (
+      arith,
+      ap length (port_signs-port c.cable-port.result (answer (Some c.in-Some-carry_at.seen))),
+      c.in-Some-carry_at.ensures.few,
+      c.bytes.invariant.owes,
+      owed-bound c.args.packet.now (reader_at c.args.dins.now (head_of c.args.packet.now.under / 16)),
+    )

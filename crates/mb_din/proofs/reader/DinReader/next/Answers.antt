@@ -1,5 +1,8 @@
-use Rattle.mb_din.specs.Turn.{answer}
+use Rattle.mb_stream.specs.ReaderLaw.{answer}
+use Rattle.mb_din.proofs.FewTold.{few_of}
+use Rattle.mb_din.proofs.FreeLemmas.{short_frees}
 use Rattle.mb_din.proofs.ReaderLaw.{next_stands, all_told}
+use Rattle.mb_din.proofs.RunNextLemmas.{run_next}
 use Rattle.mb_din.proofs.TurnLemmas.{front_of, end_of, none_of, falls_of, longest_of}
 use Rattle.mb_din.proofs.reader.DinReader.next.Goals as goal
 
@@ -30,3 +33,14 @@ returns-clause-stands c =
 pub returns-clause-all_told : goal.returns-clause-all_told
 returns-clause-all_told c =
     all_told c.advance.result c.args.self.now c.advance.new.self c.args.input.now.now c.advance.new.input.now c.advance.ensures.told c.advance.ensures.left c.advance.ensures.behind (returns-clause-none c)
+
+pub returns-clause-free : goal.returns-clause-free
+returns-clause-free c =
+    short_frees c.args.self.now c.advance.new.self c.args.input.now.now (answer c.advance.result) c.advance.ensures.told c.advance.ensures.behind
+
+pub returns-clause-runs : goal.returns-clause-runs
+returns-clause-runs c =
+    run_next c.args.self.now c.args.input.now.now (answer c.advance.result) c.advance.ensures.told
+
+pub returns-clause-few : goal.returns-clause-few
+returns-clause-few c = few_of c.args.self.now c.args.input.now.now (answer c.advance.result) c.advance.ensures.told

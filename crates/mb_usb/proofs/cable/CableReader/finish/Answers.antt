@@ -1,4 +1,4 @@
-use Rattle.mb_din.specs.Turn.{answer}
+use Rattle.mb_stream.specs.ReaderLaw.{answer}
 use Rattle.mb_usb.proofs.OnlyCable.{finish-told}
 use Rattle.mb_usb.proofs.cable.CableReader.finish.Goals as goal
 

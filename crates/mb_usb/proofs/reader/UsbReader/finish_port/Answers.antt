@@ -1,5 +1,5 @@
 use Rattle.std.proofs.Common.{◌<◌, ◌∙◌, ap, length, rules}
-use Rattle.mb_din.specs.Turn.{answer}
+use Rattle.mb_stream.specs.ReaderLaw.{answer}
 use Rattle.mb_usb.specs.State.{UsbState, reader_at}
 use Rattle.mb_usb.proofs.UsbReaderLaw.{finish-told}
 use Rattle.mb_usb.proofs.reader.UsbReader.finish_port.Goals as goal

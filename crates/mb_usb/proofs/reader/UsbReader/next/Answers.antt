@@ -1,4 +1,4 @@
-use Rattle.mb_usb.specs.Cables.{port_answer}
+use Rattle.mb_ports.specs.Reader.{port_answer}
 use Rattle.mb_usb.proofs.UsbReaderLaw.{next-tells, next-all_told}
 use Rattle.mb_usb.proofs.reader.UsbReader.next.Goals as goal
 
