@@ -12,12 +12,17 @@ use Rattle.mb_ports.proofs.MachineLaw.{events_from-append}
 use Rattle.mb_fire.specs.declared.place.BegunHeader.{BegunHeader}
 use Rattle.mb_fire.specs.declared.place.Place.{Place}
 use Rattle.mb_fire.specs.declared.place.Place.TheVariants.{Between, Heading, Within}
-use Rattle.mb_fire.specs.Packets.{Frame, frames_from, frames, Header, header_of, is_cip, has_blocks, blocks_from, blocks_of}
+use Rattle.mb_fire.specs.Packets.{placed_frames, Frame, frames, Header, header_of, is_cip, has_blocks, blocks_from, blocks_of}
 use Rattle.mb_fire.specs.Reading.{noted, known_notes, gap_note, short_note, expected_by, expected}
 use Rattle.mb_fire.specs.Under.{passed, header_in, behind_length, behind_header, first_block, expected_behind, notes_at_header, is_gap}
 use Rattle.mb_fire.specs.Ports.{fire}
 use Rattle.mb_fire.proofs.QuadletEvents.{U, S, less-one}
 use Rattle.mb_fire.proofs.BlockEvents.{drop-all, length-taken, length-dropped, pass-events, pass-behind, block_events, bytes_left, blocks-events, blocks-behind}
+use Rattle.mb_frames.specs.Frames.{framed_from}
+
+-- frames from an offset on, at most so many
+abbrev pub frames_from : (most at : ℕ) → List ℕ → List Frame
+frames_from most at bytes = placed_frames at (framed_from most bytes)
 
 -- Events of the cuts.
 

@@ -1,17 +1,17 @@
 //! The reader of one port.
 
-ghost use Rattle.std.specs.Prelude.{◌≡◌, ◌+◌, ◌*◌, ◌%◌, ◌<◌, ◌≤◌, ◌^◌, not, true, [], ℕ, List, length, take, OnSome, IfSome, IfNone};
+ghost use Rattle.std.specs.Prelude.{◌≡◌, ◌+◌, ◌*◌, ◌%◌, ◌<◌, ◌≤◌, ◌^◌, ◌↔◌, not, true, false, [], ℕ, List, length, take, OnSome, IsSome, IfSome, IfNone};
 ghost use Rattle.mb_stream.specs.Groups.{last_of};
 ghost use Rattle.mb_stream.specs.Told.{Known, at_end};
-ghost use Rattle.mb_din.specs.Turn.{answer};
-ghost use Rattle.mb_din.specs.Reader.{IsLongest, breaks, StatusNext};
-ghost use Rattle.mb_din.specs.State.{State, fresh, Rests};
-ghost use Rattle.mb_ports.specs.OnePort.{TellsOne, AllToldOne};
+ghost use Rattle.mb_stream.specs.Reading.{told_signs};
+ghost use Rattle.mb_stream.specs.ReaderLaw.{AllTold, IsLongest, StatusNext, Tells, answer, bare_told, breaks};
+ghost use Rattle.mb_din.specs.State.{State, fresh, free_now, Rests};
 ghost use Rattle.mb_fire.specs.Packets.{fire_whole};
-ghost use Rattle.mb_fire.specs.Under.{left_of, is_partial};
+ghost use Rattle.mb_fire.specs.Under.{left_of};
 ghost use Rattle.mb_fire.specs.Reading.{fire_payload};
 ghost use Rattle.mb_fire.specs.Ports.{port_so_far, PortHolds, PortStands, PortTells, PortAllTold};
-ghost use Rattle.mb_fire.specs.State.{owed_alone, owed_one, IsBehind};
+ghost use Rattle.mb_fire.specs.State.{port_packets, port_offset, port_partial, port_to_come, port_owed, owed_alone};
+ghost use Rattle.mb_fire.specs.State.{IsBehind};
 
 use crate::carry::carry;
 use crate::passed::pass_whole;
@@ -45,7 +45,7 @@ impl FirePortReader {
     pub fn new(port: u8) -> FirePortReader
         requires { port < 64 }
         ensures port { result.port ≡ port }
-        ensures offset { result.packet.offset ≡ 0 }
+        ensures offset { port_offset result ≡ 0 }
         ensures stands { PortStands result [] [] }
     {
         FirePortReader {
@@ -61,42 +61,46 @@ impl FirePortReader {
     /// lent from the input, and is never empty.
     #[inline(always)]
     pub fn next<'a>(&mut self, input: &mut &'a [u8]) -> Option<Seen<'a>>
-        requires early { self.old.packet.offset + length input.old.now < 2 ^ 63 }
+        requires early { port_offset self.old + length input.old.now < 2 ^ 63 }
         ensures port { self.new.port ≡ self.old.port }
 
         // What it takes and answers, whatever was taken and told before.
         ensures tells { PortTells self.old self.new input.old.now input.new.now (answer result) }
         ensures some { OnSome result (answer result ≡ [] → ⊥) }
         ensures all_told { IfNone result (PortAllTold self.old input.old.now) }
-        ensures end { self.new.packet.offset + length input.new.now ≡ self.old.packet.offset + length input.old.now }
-        ensures longest { IfSome result (IsLongest (take (left_of self.new.packet.under) input.new.now)) }
+        ensures end { port_offset self.new + length input.new.now ≡ port_offset self.old + length input.old.now }
+        ensures longest { IfSome result (IsLongest (take (port_to_come self.new) input.new.now)) }
         ensures none { IfNone result (input.new.now ≡ []) }
 
         // What a status breaks is told of before the status is taken: it still stands in the input, and nothing is begun,
         // running or open on the port.
         ensures before { breaks (answer result) ≡ true → StatusNext input.new.now × Rests self.new.reader }
 
+        // No more marks than the input has bytes: where one byte is handed in, one mark at most comes back.
+        ensures few { length (told_signs (answer result)) ≤ length input.old.now }
+
         // A caller's loop ends by this.
-        ensures progress { OnSome result (2 * length input.new.now + owed_one self.new < 2 * length input.old.now + owed_one self.old) }
+        ensures progress { OnSome result (2 * length input.new.now + port_owed self.new < 2 * length input.old.now + port_owed self.old) }
     {
         read_port(self.port, &mut self.packet, &mut self.din, input)
     }
 
     /// What only the end of the recording makes known: a message that was begun and not finished, or an open SysEx. The
-    /// port then stands as a fresh one does.
+    /// port then stands as a fresh one does: a second call answers `None`.
     pub fn finish(&mut self) -> Option<Seen<'static>>
         ensures port { self.new.port ≡ self.old.port }
         ensures told { (bytes : List ℕ) → PortStands self.old bytes (port_so_far self.old.port bytes) → answer result ≡ at_end (last_of (fire_payload self.old.port bytes)) }
         ensures some { OnSome result (answer result ≡ [] → ⊥) }
+        ensures when { IsSome result ↔ (free_now self.old.reader ≡ false) }
         ensures as_fresh { self.new.reader ≡ record fresh { offset = self.old.reader.offset } }
-        ensures packets { self.new.packet ≡ self.old.packet }
+        ensures packets { port_packets self.new ≡ port_packets self.old }
     {
         self.din.finish()
     }
 
     /// Whether the bytes that were taken stop inside a frame.
     pub fn partial(&self) -> bool
-        ensures state { result ≡ is_partial self.now.packet.under }
+        ensures state { result ≡ port_partial self.now }
         ensures law { (bytes : List ℕ) (told : List Known) → PortStands self.now bytes told → result ≡ not (fire_whole bytes) }
     {
         partial(self.packet.under)
@@ -113,13 +117,14 @@ fn read_port<'a>(
 ) -> Option<Seen<'a>>
     requires early { packet.old.offset + length input.old.now < 2 ^ 63 }
     requires behind { IsBehind packet.old din.old }
-    ensures tells { TellsOne (port_so_far own) (PortHolds own packet.old din.old) (PortHolds own packet.new din.new) input.old.now input.new.now (answer result) }
+    ensures tells { Tells bare_told (port_so_far own) (PortHolds own packet.old din.old) (PortHolds own packet.new din.new) input.old.now input.new.now (answer result) }
     ensures some { OnSome result (answer result ≡ [] → ⊥) }
-    ensures all_told { IfNone result (AllToldOne (port_so_far own) (PortHolds own packet.old din.old) input.old.now) }
+    ensures all_told { IfNone result (AllTold (port_so_far own) (PortHolds own packet.old din.old) input.old.now) }
     ensures behind { IsBehind packet.new din.new }
     ensures end { packet.new.offset + length input.new.now ≡ packet.old.offset + length input.old.now }
     ensures longest { IfSome result (IsLongest (take (left_of packet.new.under) input.new.now)) }
     ensures before { breaks (answer result) ≡ true → StatusNext input.new.now × Rests din.new }
+    ensures few { length (told_signs (answer result)) ≤ length input.old.now }
     ensures none { IfNone result (input.new.now ≡ []) }
     ensures progress { OnSome result (2 * length input.new.now + owed_alone own packet.new din.new < 2 * length input.old.now + owed_alone own packet.old din.old) }
 {

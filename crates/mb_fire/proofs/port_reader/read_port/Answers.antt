@@ -1,7 +1,7 @@
 use Rattle.std.proofs.Common.{◌≡◌, ◌≢◌, ◌<◌, ◌∙◌, None, Some, true, [], ◌∷◌, length, sym, ap, refl, rules, arith}
 use Rattle.std.proofs.lemmas.List.{nil_from_length}
 use Rattle.mb_stream.specs.Told.{Notes}
-use Rattle.mb_din.specs.Turn.{answer}
+use Rattle.mb_stream.specs.ReaderLaw.{answer}
 use Rattle.mb_fire.specs.Under.{left_of}
 use Rattle.mb_fire.specs.State.{is_of_port}
 use Rattle.mb_fire.proofs.OnlyPort.{begins, is-of, then-due, then-pass, then-carry, then-none, tells-literal, tolds, all_told-literal, undue-behind, pass-behind, carry-behind, carry-owed, due-owed, due-same, shorter, falls}
@@ -16,6 +16,7 @@ bytes-init c = record {
   behind = c.requires.behind;
   tells = begins c.args.own c.args.packet.now c.args.din.now c.args.input.now.now;
   ends = refl;
+  shrinks = omega arith;
   owes = omega arith;
 }
 
@@ -54,6 +55,7 @@ bytes-preserved c =
       tells = then-pass c.args.own c.args.packet.now c.bytes.packet c.pass_whole.new.packet c.pass.new.self c.args.din.now c.bytes.din c.args.input.now.now c.bytes.input.now c.in-Some-split_first.rest.now c.in-Some-split_first.byte.now c.bytes.invariant.tells
           (sym c.take_due.ensures.due ∙ c.in_default.is) (c.in_default-pass_whole.ensures.same ∙ c.take_due.ensures.told) (search rules) c.pass.ensures first;
       ends = search rules;
+      shrinks = omega (arith, less, c.bytes.invariant.shrinks);
       owes = falls c.args.own c.pass.new.self c.bytes.din c.in-Some-split_first.rest.now c.bytes.input.now _ _ less c.bytes.invariant.owes;
     }
 
@@ -68,6 +70,7 @@ bytes-preserved-in_default-carry c =
       tells = then-carry c.args.own c.args.packet.now c.bytes.packet c.pass_whole.new.packet c.carry.new.packet c.args.din.now c.bytes.din c.carry.new.din c.args.input.now.now c.bytes.input.now c.in-Some-split_first.rest.now c.carry.new.input.now c.in-Some-split_first.byte.now None c.bytes.invariant.tells
           (sym c.take_due.ensures.due ∙ c.in_default.is) (c.in_default-pass_whole.ensures.same ∙ c.take_due.ensures.told) of_it (search rules) c.in_default-carry.ensures.hands;
       ends = search rules;
+      shrinks = omega (arith, less, c.bytes.invariant.shrinks);
       owes = falls c.args.own c.carry.new.packet c.carry.new.din c.carry.new.input.now c.bytes.input.now _ _ less c.bytes.invariant.owes;
     }
 
@@ -100,5 +103,9 @@ bytes-preserved-in-Some-pass_whole c =
       behind = over-behind c.args.own c.bytes.packet c.take_due.new.self c.pass_whole.new.packet c.bytes.din c.bytes.input.now c.in-Some-pass_whole.left.now c.bytes.invariant.behind c.take_due.ensures.told over;
       tells = then-over c.args.own c.args.packet.now c.bytes.packet c.take_due.new.self c.pass_whole.new.packet c.args.din.now c.bytes.din c.args.input.now.now c.bytes.input.now c.in-Some-pass_whole.left.now c.bytes.invariant.tells due c.take_due.ensures.told over;
       ends = omega (arith, over-ends c.args.own c.take_due.new.self c.pass_whole.new.packet c.bytes.input.now c.in-Some-pass_whole.left.now over, ap (λ (p : Packet). p.offset) c.take_due.ensures.told, c.bytes.invariant.ends);
+      shrinks = omega (arith, less, c.bytes.invariant.shrinks);
       owes = falls c.args.own c.pass_whole.new.packet c.bytes.din c.in-Some-pass_whole.left.now c.bytes.input.now _ _ less c.bytes.invariant.owes;
     }
+
+pub returns-in-Some-carry-clause-few : goal.returns-in-Some-carry-clause-few
+returns-in-Some-carry-clause-few c = omega (arith, c.in-Some-carry.ensures.few, c.bytes.invariant.shrinks)

@@ -1,4 +1,4 @@
-use Rattle.mb_din.specs.Turn.{answer}
+use Rattle.mb_stream.specs.ReaderLaw.{answer}
 use Rattle.mb_fire.proofs.OnlyPort.{finish-told}
 use Rattle.mb_fire.proofs.port_reader.FirePortReader.finish.Goals as goal
 

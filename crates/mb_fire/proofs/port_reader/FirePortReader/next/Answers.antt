@@ -1,4 +1,4 @@
-use Rattle.mb_din.specs.Turn.{answer}
+use Rattle.mb_stream.specs.ReaderLaw.{answer}
 use Rattle.mb_fire.proofs.OnlyPort.{next-tells, next-all_told}
 use Rattle.mb_fire.proofs.port_reader.FirePortReader.next.Goals as goal
 
