@@ -1,6 +1,7 @@
 //! The readers of all FireWire ports and of one.
 
 ghost use Rattle.std.specs.Prelude.{◌≡◌, ◌+◌, ◌<◌, ◌^◌, length};
+ghost use Rattle.mb_fire.specs.State.{fire_offset, port_offset};
 
 use crate::text::{Runs, Text, put_answer, put_note, put_seen};
 use mb_fire::{FirePortReader, FireReader};
@@ -8,8 +9,8 @@ use mb_message::PortSeen;
 
 /// Appends what a piece tells, up to the answer of nothing.
 fn read_piece(reader: &mut FireReader, piece: &[u8], text: &mut Text)
-    requires { reader.old.packet.offset + length piece.now < 2 ^ 63 }
-    ensures { reader.new.packet.offset ≡ reader.old.packet.offset + length piece.now }
+    requires { fire_offset reader.old + length piece.now < 2 ^ 63 }
+    ensures { fire_offset reader.new ≡ fire_offset reader.old + length piece.now }
 {
     let mut rest = piece;
     'told: while let Some(seen) = reader.next(&mut rest) {
@@ -22,8 +23,8 @@ fn read_piece(reader: &mut FireReader, piece: &[u8], text: &mut Text)
 
 /// The same of one port alone.
 fn read_port(reader: &mut FirePortReader, piece: &[u8], text: &mut Text)
-    requires { reader.old.packet.offset + length piece.now < 2 ^ 63 }
-    ensures { reader.new.packet.offset ≡ reader.old.packet.offset + length piece.now }
+    requires { port_offset reader.old + length piece.now < 2 ^ 63 }
+    ensures { port_offset reader.new ≡ port_offset reader.old + length piece.now }
 {
     let mut rest = piece;
     'told: while let Some(seen) = reader.next(&mut rest) {

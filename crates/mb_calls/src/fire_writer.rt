@@ -1,6 +1,7 @@
 //! The writers of eight FireWire ports and of one.
 
 ghost use Rattle.std.specs.Prelude.{◌≡◌, ◌+◌, ◌<◌, ◌^◌, length};
+ghost use Rattle.mb_fire.specs.State.{port_offset};
 
 use crate::text::{Runs, Text, put_seen};
 use mb_fire::{FirePortReader, FirePortWriter, FireWriter};
@@ -76,8 +77,8 @@ fn the_count_rises_by_eight_a_packet(rt: HostRuntime) {
 
 /// Appends what a piece tells of a port.
 fn read_port(reader: &mut FirePortReader, piece: &[u8], text: &mut Text)
-    requires { reader.old.packet.offset + length piece.now < 2 ^ 63 }
-    ensures { reader.new.packet.offset ≡ reader.old.packet.offset + length piece.now }
+    requires { port_offset reader.old + length piece.now < 2 ^ 63 }
+    ensures { port_offset reader.new ≡ port_offset reader.old + length piece.now }
 {
     let mut rest = piece;
     'told: while let Some(seen) = reader.next(&mut rest) {
