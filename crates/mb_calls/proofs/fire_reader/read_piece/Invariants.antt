@@ -4,7 +4,7 @@ use Rattle.mb_calls.proofs.fire_reader.read_piece.Given as goal
 
 abbrev pub invariant-told : goal.invariant-told
 invariant-told l = record {
-  ends : fire_offset l.reader + length l.rest ≡ l.initiafire_offset l.reader + length l.piece;
+  ends : fire_offset l.reader + length l.rest ≡ fire_offset l.initial.reader + length l.piece;
 }
 
 abbrev pub decreases-told : goal.decreases-told

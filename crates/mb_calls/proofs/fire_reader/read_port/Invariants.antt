@@ -4,7 +4,7 @@ use Rattle.mb_calls.proofs.fire_reader.read_port.Given as goal
 
 abbrev pub invariant-told : goal.invariant-told
 invariant-told l = record {
-  ends : port_offset l.reader + length l.rest ≡ l.initiaport_offset l.reader + length l.piece;
+  ends : port_offset l.reader + length l.rest ≡ port_offset l.initial.reader + length l.piece;
 }
 
 abbrev pub decreases-told : goal.decreases-told
