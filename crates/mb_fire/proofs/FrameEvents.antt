@@ -142,9 +142,9 @@ same-notes e x h k here long = by_tests (is_cip (header_in h)) (h.fdf == 0xff) (
 
   by_tests : (c f z : Bool) →
       remarked k (if not c then record { kind = BadCip; at = k - 9 } ∷ [] else (if f then [] else (if z then record { kind = ZeroDbs; at = k - 9 } ∷ []
-          else (if (h.len - 8) % (4 * h.dbs) == 0 then [] else record { kind = Ragged; at = k - 9 } ∷ []) ++ (if is_gap e h.dbc then record { kind = DbcGap; at = k - 9 } ∷ [] else []))))
+      else (if (h.len - 8) % (4 * h.dbs) == 0 then [] else record { kind = Ragged; at = k - 9 } ∷ []) ++ (if is_gap e h.dbc then record { kind = DbcGap; at = k - 9 } ∷ [] else []))))
       ≡ map Remarked (if not c then noted (x.at + 9) x.at BadCip ∷ [] else (if f then [] else (if z then noted (x.at + 9) x.at ZeroDbs ∷ []
-          else (if (x.len - 8) % (4 * h.dbs) == 0 then [] else noted (x.at + 9) x.at Ragged ∷ []) ++ gap_note e x (header_in h))))
+      else (if (x.len - 8) % (4 * h.dbs) == 0 then [] else noted (x.at + 9) x.at Ragged ∷ []) ++ gap_note e x (header_in h))))
   by_tests false f z = ap₂ (λ a b. Remarked (noted a b BadCip) ∷ []) here start
   by_tests true true z = refl
   by_tests true false true = ap₂ (λ a b. Remarked (noted a b ZeroDbs) ∷ []) here start

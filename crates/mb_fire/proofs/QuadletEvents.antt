@@ -179,7 +179,7 @@ split-midi false m at l xs qs e = ap (λ t. if t then midi_behind (m + 1) qs els
 -- a whole one
 quad : (f : ℕ → Option ℕ) (d n b r q m : ℕ) (e : Option ℕ) (at l x y z : ℕ) (t : Bool) → (is_midi l && nat_lt m 8) ≡ t →
     Goes f (U (Within (S d n b r q m 0 0)) e) at (l ∷ x ∷ y ∷ z ∷ [])
-        (quadlet_own f t (n % 8) m (at + 1) l (x ∷ y ∷ z ∷ []) ++ remarked (at + 1 + 1 + 1) (last_note d q (one_midi t m) (at + 1 + 1 + 1))) (U (Last d n b r q (one_midi t m)) e)
+    (quadlet_own f t (n % 8) m (at + 1) l (x ∷ y ∷ z ∷ []) ++ remarked (at + 1 + 1 + 1) (last_note d q (one_midi t m) (at + 1 + 1 + 1))) (U (Last d n b r q (one_midi t m)) e)
 quad f d n b r q m e at l x y z t h =
     let g = behind-label f d n b r q (one_midi t m) (left_by t l) (skip_by t l) e (at + 1) x y z (few-by t l m h) in
     record {
@@ -258,7 +258,7 @@ same-note f t g d m at l xs =
 
 pub quadlets-whole : (f : ℕ → Option ℕ) (d n b r q m : ℕ) (e : Option ℕ) (at : ℕ) (bs : List ℕ) → length bs ≡ 4 * (q + 1) →
     Goes f (U (Within (S d n b r q m 0 0)) e) at bs
-        (quadlet_events f (n % 8) m (quadlets_from at bs) ++ remarked (at + 4 * q + 3) (end_note d (midi_behind m (quadlets_from at bs)) (at + 4 * q + 3))) (U (Next d n b r) e)
+    (quadlet_events f (n % 8) m (quadlets_from at bs) ++ remarked (at + 4 * q + 3) (end_note d (midi_behind m (quadlets_from at bs)) (at + 4 * q + 3))) (U (Next d n b r) e)
 quadlets-whole f d n b r q m e at [] h = absurd (omega arith)
 quadlets-whole f d n b r q m e at (l ∷ []) h = absurd (omega arith)
 quadlets-whole f d n b r q m e at (l ∷ x ∷ []) h = absurd (omega arith)

@@ -3,12 +3,14 @@
 --
 --   is_passed port c label        a quadlet begins here, and with this label carries nothing on the port
 --   behind_whole_header p h       behind a length and a header
---   behind_whole_quadlet p c l    behind a quadlet
+--   behind_whole_quadlet p c l    behind a quadlet; behind_whole_rest, behind_whole_label behind a part of one
+--   IsQuiet port c label next     a quadlet that is passed over, behind which blocks go on
 --   PassedOver port was now ..    bytes were passed over that aren't the port's
-use Rattle.std.specs.Prelude.{◌≡◌, ℕ, ◌+◌, ◌*◌, ◌%◌, Bool, false, not, ◌&&◌, ◌==◌, nat_lt, nat_le, List, [], ◌∷◌, ◌++◌}
+use Rattle.std.specs.Prelude.{◌≡◌, ℕ, ◌+◌, ◌-◌, ◌*◌, ◌%◌, Bool, true, false, not, ◌&&◌, ◌==◌, nat_lt, nat_le, List, [], ◌∷◌, ◌++◌}
 use Rattle.mb_fire.specs.declared.due.Due.TheVariants.{Nothing}
 use Rattle.mb_fire.specs.declared.place.BegunHeader.{BegunHeader}
 use Rattle.mb_fire.specs.declared.place.BlockPlace.{BlockPlace}
+use Rattle.mb_fire.specs.declared.place.Place.TheVariants.{Within}
 use Rattle.mb_fire.specs.declared.under.Packet.{Packet}
 use Rattle.mb_fire.specs.State.{is_of_port}
 use Rattle.mb_fire.specs.Under.{behind_header, expected_behind, notes_at_header, label_after, behind_quadlet, notes_behind, due_by, packet_after, packet_behind}
@@ -33,6 +35,26 @@ behind_whole_quadlet p c label = record {
   under = record { place = behind_quadlet (label_after c label); expected = p.under.expected };
   due = due_by (notes_behind (label_after c label) (p.offset + 3));
 }
+
+abbrev pub behind_whole_rest : Packet → BlockPlace → Packet
+behind_whole_rest p c = record {
+  offset = p.offset + c.skip;
+  under = record { place = behind_quadlet c; expected = p.under.expected };
+  due = due_by (notes_behind c (p.offset + c.skip - 1));
+}
+
+abbrev pub behind_whole_label : Packet → BlockPlace → (label : ℕ) → Packet
+behind_whole_label p c label = record {
+  offset = p.offset + 1;
+  under = record { place = Within (label_after c label); expected = p.under.expected };
+  due = Nothing;
+}
+
+-- blocks go on behind the quadlet, and nothing is remarked of it
+pub record IsQuiet (port : ℕ) (c : BlockPlace) (label : ℕ) (next : BlockPlace) : Type 0 where
+  pub passed : is_passed port c label ≡ true
+  pub none : ((label_after c label).quadlets == 0 && ((label_after c label).midi == 0)) ≡ false
+  pub goes_on : behind_quadlet (label_after c label) ≡ Within next
 
 -- one after the other: none is the port's, and nothing is remarked before the last
 abbrev pub ArePassed : (port : ℕ) → Packet → List ℕ → Type 0

@@ -1,9 +1,9 @@
 //! The data blocks of a packet, byte by byte (IEC 61883-6, "AM824 data" and "MIDI conformant data"), and what is remarked of them.
 
-ghost use Rattle.std.specs.Prelude.{◌≡◌, ◌<◌, ◌^◌};
+ghost use Rattle.std.specs.Prelude.{◌≡◌, ◌-◌, ◌<◌, ◌≤◌, ◌^◌, IfSome};
 ghost use Rattle.mb_fire.specs.Under.{block_after, label_after, one_less, behind_quadlet, behind_block};
 ghost use Rattle.mb_fire.specs.Under.{due_by, notes_in_block, notes_behind};
-ghost use Rattle.mb_fire.specs.Passed.{carries, is_passed};
+ghost use Rattle.mb_fire.specs.Passed.{carries, is_passed, IsQuiet};
 
 use crate::due::Due;
 use crate::header::before_passed;
@@ -47,6 +47,17 @@ fn one_less(place: BlockPlace) -> BlockPlace
     } else {
         next.left = place.left - 1;
     }
+    next
+}
+
+/// The place behind so many of the bytes to come that a port carries.
+#[inline(always)]
+pub fn behind_carried(place: BlockPlace, count: usize) -> BlockPlace
+    requires { count ≤ place.left }
+    ensures { result ≡ record place { left = place.left - count } }
+{
+    let mut next = place;
+    next.left = place.left - count as u8;
     next
 }
 
@@ -109,6 +120,25 @@ pub fn due_behind(place: BlockPlace, offset: u64) -> Due
         });
     }
     Due::Nothing
+}
+
+/// The place behind a quadlet that begins here and with this label carries nothing on a port, where blocks go on behind it and
+/// nothing is remarked of it.
+#[inline(always)]
+pub fn behind_quiet(own: u8, place: BlockPlace, label: u8) -> Option<BlockPlace>
+    ensures { IfSome result (IsQuiet own place label) }
+{
+    if !is_passed(own, place, label) {
+        return None;
+    }
+    let last = behind_label(place, label);
+    if last.quadlets == 0 && last.midi == 0 {
+        return None;
+    }
+    match behind_quadlet(last) {
+        Place::Within(next) => Some(next),
+        _ => None,
+    }
 }
 
 /// Whether a quadlet begins here, and with this label carries nothing on a port.

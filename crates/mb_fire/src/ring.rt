@@ -100,7 +100,7 @@ impl PortRing {
     fn put_short(&mut self, short: Short)
         requires room { length self.old.ring + suc (length (data_of short.status short.data1 short.data2)) ≤ 64 }
         ensures { self.new ≡ record self.old {
-            ring = self.old.ring ++ short.status ∷ data_of short.status short.data1 short.data2
+          ring = self.old.ring ++ short.status ∷ data_of short.status short.data1 short.data2;
         } }
     {
         match data_len(short.status()).unwrap_or(0) {

@@ -13,5 +13,5 @@ returns-clause-passed c port =
     let long : 8 ≤ 256 * c.from.result + c.from-2.result = c.if-len-lt8.false in
     subst (λ (z : List ℕ). PassedOver port c.args.packet.now c.pass_header.new.self z left) (sym (front-ten xs (omega arith)))
     (header-passed port c.args.packet.now c.pass_header.new.self (get_or xs 0 0) (get_or xs 1 0) (get_or xs 2 0) (get_or xs 3 0) (get_or xs 4 0) (get_or xs 5 0) (get_or xs 6 0) (get_or xs 7 0) (get_or xs 8 0) (get_or xs 9 0) left
-    c.requires.rested c.requires.between (omega (arith, len, long))
+    c.in-Nothing-Between.is-0 c.in-Nothing-Between.is-1 (omega (arith, len, long))
     (c.pass_header.ensures ∙ ap (λ (z : ℕ). behind_whole_header c.args.packet.now (header z 7 (get_or xs 2 0) (get_or xs 3 0) (get_or xs 5 0) (get_or xs 6 0) (get_or xs 7 0))) len))
