@@ -155,8 +155,9 @@ fn recordings_are_read_cut_at_each_place(rt: HostRuntime) {
     }
 }
 
-/// A note on of port 5 and a clock of port 13 in one block; the start of a SysEx of port 5 in a packet with a gap of the count, and a
-/// block without a MIDI conformant quadlet; another start on port 1, and a frame that ends inside a quadlet of port 9.
+/// A note on of port 5 and a clock of port 13 in one block; the start of a SysEx of port 5 in a packet with a gap of
+/// the count, and a block without a MIDI conformant quadlet; another start on port 1, and a frame that ends inside a
+/// quadlet of port 9.
 const OF_FIVE_PORTS: &[u8] = &[
     0, 0x10, 0, 2, 0, 5, 0x90, 2, 0xff, 0xff, 0x83, 0x90, 0x3c, 0x64, 0x81, 0xf8, 0, 0, 0, 0x18, 0,
     1, 0, 0x0d, 0x90, 2, 0xff, 0xff, 0x82, 0xf0, 7, 0, 0x80, 0, 0, 0, 0x40, 0, 0, 0, 0x80, 0, 0, 0,

@@ -1,12 +1,12 @@
 -- No other port carries anything of what is written on a port.
-use Rattle.std.proofs.Common.{◌≡◌, ◌≢◌, ◌⊎◌, inl, inr, ℕ, zero, suc, ◌+◌, ◌*◌, ◌/◌, ◌%◌, ◌<◌, ◌≤◌, Bool, true, false, ◌==◌, if◌then◌else◌, Option, Some, None, List, [], ◌∷◌, ◌++◌, flat_map, take, refl, sym, ◌∙◌, ap, ap₂, subst, arith}
+use Rattle.std.proofs.Common.{◌≡◌, ◌≢◌, ◌⊎◌, inl, inr, ℕ, zero, suc, ◌+◌, ◌*◌, ◌/◌, ◌%◌, ◌<◌, ◌≤◌, Bool, true, false, ◌==◌, if◌then◌else◌, Option, Some, None, List, [], ◌∷◌, ◌++◌, flat_map, take, refl, sym, ◌∙◌, ap, ap₂, arith}
 use Rattle.std.proofs.lemmas.Bool.{eqb-true, cases_lt}
 use Rattle.mb_message.specs.Signs.{Sign}
 use Rattle.mb_stream.specs.Payload.{Entry}
 use Rattle.mb_stream.specs.Spelling.{full_bytes}
-use Rattle.mb_fire.specs.Packets.{frames, Quadlet, quadlets_from, midi_only, midi_quadlets, blocks_of}
+use Rattle.mb_fire.specs.Packets.{Quadlet, quadlets_from, midi_only, midi_quadlets, blocks_of}
 use Rattle.mb_fire.specs.Reading.{nth, carried_by, block_payload, packet_payload, fire_payload}
-use Rattle.mb_fire.specs.Written.{block, dbc_of, alone, packets_from, fire_written}
+use Rattle.mb_fire.specs.Written.{block, dbc_of, alone, fire_written}
 use Rattle.mb_fire.proofs.WrittenPackets.{alone_from, framed, header, written_frames, blocks_at, blocks-are, has-blocks, nth-first, stream-of, frames-all}
 
 nth-beyond : (j n : ℕ) (qs : List Quadlet) → n ≤ j → nth j (take n qs) ≡ None

@@ -1,5 +1,5 @@
--- Headers and quadlets that stand whole in the input (IEC 61883-1, "CIP header"; IEC 61883-6, "AM824 data") and carry nothing on a
--- port: they are passed over in one go.
+-- Headers and quadlets that stand whole in the input (IEC 61883-1, "CIP header"; IEC 61883-6, "AM824 data") and carry
+-- nothing on a port: they are passed over in one go.
 --
 --   is_passed port c label        a quadlet begins here, and with this label carries nothing on the port
 --   behind_whole_header p h       behind a length and a header

@@ -1,7 +1,7 @@
 -- A writer of the eight ports of a place: what waits for each, and the count of its next packet.
 --
 --   Writer                     its value
---   Stands w marks sent n      each port was given these marks and sent these bytes, in so many packets; the rest of the bytes waits
+--   Stands w marks sent n      each port was given these marks and sent these bytes, in so many packets; the rest waits
 --   heads rings                the first byte that waits for each
 use Rattle.std.specs.Prelude.{◌≡◌, ℕ, ◌<◌, ◌==◌, if◌then◌else◌, Bool, true, false, List, [], ◌∷◌, ◌++◌, map, drop, slice_get, slice_index_or, Option, Some, None, option_to_list}
 use Rattle.mb_message.specs.Signs.{Sign}

@@ -1,4 +1,5 @@
-//! The data blocks of a packet, byte by byte (IEC 61883-6, "AM824 data" and "MIDI conformant data"), and what is remarked of them.
+//! The data blocks of a packet, byte by byte (IEC 61883-6, "AM824 data" and "MIDI conformant data"), and what is
+//! remarked of them.
 
 ghost use Rattle.std.specs.Prelude.{◌≡◌, ◌-◌, ◌<◌, ◌≤◌, ◌^◌, IfSome};
 ghost use Rattle.mb_fire.specs.Under.{block_after, label_after, one_less, behind_quadlet, behind_block};
@@ -122,8 +123,8 @@ pub fn due_behind(place: BlockPlace, offset: u64) -> Due
     Due::Nothing
 }
 
-/// The place behind a quadlet that begins here and with this label carries nothing on a port, where blocks go on behind it and
-/// nothing is remarked of it.
+/// The place behind a quadlet that begins here and with this label carries nothing on a port, where blocks go on
+/// behind it and nothing is remarked of it.
 #[inline(always)]
 pub fn behind_quiet(own: u8, place: BlockPlace, label: u8) -> Option<BlockPlace>
     ensures { IfSome result (IsQuiet own place label) }

@@ -1,5 +1,6 @@
-//! Bytes that stand in the input and carry nothing on the port, passed over many at once: a header, the rest of a quadlet, whole
-//! quadlets, and the label of one that carries something. Nearly all bytes of a recording are such ones.
+//! Bytes that stand in the input and carry nothing on the port, passed over many at once: a header, the rest of a
+//! quadlet, whole quadlets, and the label of one that carries something. Nearly all bytes of a recording are such
+//! ones.
 
 ghost use Rattle.std.specs.Prelude.{◌≡◌, ℕ, ◌+◌, ◌<◌, ◌≤◌, ◌^◌, length, IfSome, IfNone};
 ghost use Rattle.mb_fire.specs.Passed.{PassedOver};
@@ -9,8 +10,9 @@ use crate::due::Due;
 use crate::place::{BegunHeader, Place};
 use crate::under::Packet;
 
-/// Passes over what stands at the front of the input, up to a byte that is the port's or of which something is remarked. What is left
-/// is answered. `None`, and nothing is passed over, where no such bytes stand there: then one byte is taken by itself.
+/// Passes over what stands at the front of the input, up to a byte that is the port's or of which something is
+/// remarked. What is left is answered. `None`, and nothing is passed over, where no such bytes stand there: then one
+/// byte is taken by itself.
 #[inline(always)]
 pub fn pass_whole<'a>(own: u8, packet: &mut Packet, input: &'a [u8]) -> Option<&'a [u8]>
     requires early { packet.old.offset + length input.now < 2 ^ 63 }
@@ -78,7 +80,8 @@ fn pass_rest<'a>(packet: &mut Packet, input: &'a [u8]) -> &'a [u8]
     left
 }
 
-/// Passes over quadlets that carry nothing on the port, as long as blocks go on behind them and nothing is remarked of any.
+/// Passes over quadlets that carry nothing on the port, as long as blocks go on behind them and nothing is remarked
+/// of any.
 #[inline(always)]
 fn pass_quiet<'a>(own: u8, packet: &mut Packet, input: &'a [u8]) -> &'a [u8]
     requires early { packet.old.offset + length input.now < 2 ^ 63 }

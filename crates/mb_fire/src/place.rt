@@ -1,5 +1,5 @@
-//! Where the next byte of a recording stands: in the frames round the packets, which are this project's own, in a packet's header
-//! (IEC 61883-1, "CIP header"), or in its data blocks (IEC 61883-6, "AM824 data").
+//! Where the next byte of a recording stands: in the frames round the packets, which are this project's own, in a
+//! packet's header (IEC 61883-1, "CIP header"), or in its data blocks (IEC 61883-6, "AM824 data").
 
 /// A header of which bytes are to come.
 #[derive(Clone, Copy, Debug, PartialEq, Eq)]

@@ -20,8 +20,8 @@ use mb_din::DinReader;
 use mb_message::Seen;
 use std::marker::Model;
 
-/// Reads one port of a FireWire recording that comes in pieces: its stream, and the notes on all packets. What other ports carry is
-/// passed over.
+/// Reads one port of a FireWire recording that comes in pieces: its stream, and the notes on all packets. What other
+/// ports carry is passed over.
 #[derive(Drop)]
 pub struct FirePortReader {
     port: u8,
@@ -55,10 +55,10 @@ impl FirePortReader {
         }
     }
 
-    /// The next mark or note of the bytes that were taken and of the input, which it takes from the front of the input:
-    /// of the port, or a note of any packet. What a byte makes known of earlier ones is told while it still stands in the
-    /// input, and before anything of it is kept. `None` comes where the input is used up and all of it is told. A run is
-    /// lent from the input, and is never empty.
+    /// The next mark or note of the bytes that were taken and of the input, which it takes from the front of the
+    /// input: of the port, or a note of any packet. What a byte makes known of earlier ones is told while it still
+    /// stands in the input, and before anything of it is kept. `None` comes where the input is used up and all of it
+    /// is told. A run is lent from the input, and is never empty.
     #[inline(always)]
     pub fn next<'a>(&mut self, input: &mut &'a [u8]) -> Option<Seen<'a>>
         requires early { port_offset self.old + length input.old.now < 2 ^ 63 }
@@ -72,15 +72,16 @@ impl FirePortReader {
         ensures longest { IfSome result (IsLongest (take (port_to_come self.new) input.new.now)) }
         ensures none { IfNone result (input.new.now ≡ []) }
 
-        // What a status breaks is told of before the status is taken: it still stands in the input, and nothing is begun,
-        // running or open on the port.
+        // What a status breaks is told of before the status is taken: it still stands in the input, and nothing is
+        // begun, running or open on the port.
         ensures before { breaks (answer result) ≡ true → StatusNext input.new.now × Rests self.new.reader }
 
         // No more marks than the input has bytes: where one byte is handed in, one mark at most comes back.
         ensures few { length (told_signs (answer result)) ≤ length input.old.now }
 
         // A caller's loop ends by this.
-        ensures progress { OnSome result (2 * length input.new.now + port_owed self.new < 2 * length input.old.now + port_owed self.old) }
+        ensures progress { OnSome result (
+            2 * length input.new.now + port_owed self.new < 2 * length input.old.now + port_owed self.old) }
     {
         read_port(self.port, &mut self.packet, &mut self.din, input)
     }
@@ -89,7 +90,8 @@ impl FirePortReader {
     /// port then stands as a fresh one does: a second call answers `None`.
     pub fn finish(&mut self) -> Option<Seen<'static>>
         ensures port { self.new.port ≡ self.old.port }
-        ensures told { (bytes : List ℕ) → PortStands self.old bytes (port_so_far self.old.port bytes) → answer result ≡ at_end (last_of (fire_payload self.old.port bytes)) }
+        ensures told { (bytes : List ℕ) → PortStands self.old bytes (port_so_far self.old.port bytes) →
+            answer result ≡ at_end (last_of (fire_payload self.old.port bytes)) }
         ensures some { OnSome result (answer result ≡ [] → ⊥) }
         ensures when { IsSome result ↔ (free_now self.old.reader ≡ false) }
         ensures as_fresh { self.new.reader ≡ record fresh { offset = self.old.reader.offset } }
@@ -101,7 +103,8 @@ impl FirePortReader {
     /// Whether the bytes that were taken stop inside a frame.
     pub fn partial(&self) -> bool
         ensures state { result ≡ port_partial self.now }
-        ensures law { (bytes : List ℕ) (told : List Known) → PortStands self.now bytes told → result ≡ not (fire_whole bytes) }
+        ensures law { (bytes : List ℕ) (told : List Known) → PortStands self.now bytes told →
+            result ≡ not (fire_whole bytes) }
     {
         partial(self.packet.under)
     }
@@ -117,7 +120,8 @@ fn read_port<'a>(
 ) -> Option<Seen<'a>>
     requires early { packet.old.offset + length input.old.now < 2 ^ 63 }
     requires behind { IsBehind packet.old din.old }
-    ensures tells { Tells bare_told (port_so_far own) (PortHolds own packet.old din.old) (PortHolds own packet.new din.new) input.old.now input.new.now (answer result) }
+    ensures tells { Tells bare_told (port_so_far own)
+        (PortHolds own packet.old din.old) (PortHolds own packet.new din.new) input.old.now input.new.now (answer result) }
     ensures some { OnSome result (answer result ≡ [] → ⊥) }
     ensures all_told { IfNone result (AllTold (port_so_far own) (PortHolds own packet.old din.old) input.old.now) }
     ensures behind { IsBehind packet.new din.new }
@@ -126,7 +130,9 @@ fn read_port<'a>(
     ensures before { breaks (answer result) ≡ true → StatusNext input.new.now × Rests din.new }
     ensures few { length (told_signs (answer result)) ≤ length input.old.now }
     ensures none { IfNone result (input.new.now ≡ []) }
-    ensures progress { OnSome result (2 * length input.new.now + owed_alone own packet.new din.new < 2 * length input.old.now + owed_alone own packet.old din.old) }
+    ensures progress { OnSome result (
+        2 * length input.new.now + owed_alone own packet.new din.new <
+        2 * length input.old.now + owed_alone own packet.old din.old) }
 {
     'bytes: loop {
         if let Some(note) = packet.take_due() {

@@ -80,9 +80,11 @@ impl FirePortWriter {
         ensures port { self.new.port ≡ self.old.port }
         ensures in_sysex { self.new.in_sysex ≡ open_behind self.old.in_sysex ev.entry }
         ensures len { array_vec_len out.new ≤ array_vec_len out.old + room self.old.port }
-        ensures stands { (marks : List Sign) → Stands self.old marks → Stands self.new (marks ++ signs_of_event ev.entry) }
+        ensures stands { (marks : List Sign) → Stands self.old marks →
+            Stands self.new (marks ++ signs_of_event ev.entry) }
         ensures written { (marks : List Sign) → Stands self.old marks →
-            Appended out.old.items out.new.items (fire_written self.old.port marks) (fire_written self.old.port (marks ++ signs_of_event ev.entry)) }
+            Appended out.old.items out.new.items
+            (fire_written self.old.port marks) (fire_written self.old.port (marks ++ signs_of_event ev.entry)) }
     {
         self.write(ev, out);
     }
@@ -107,7 +109,8 @@ impl FirePortWriter {
         ensures port { self.new.port ≡ self.old.port }
         ensures in_sysex { self.new.in_sysex ≡ open_behind self.old.in_sysex ev.entry }
         ensures count { self.new.dbc ≡ dbc_behind self.old.dbc (full_bytes (signs_of_event ev.entry)) }
-        ensures written { out.new.items ≡ out.old.items ++ fire_from self.old.port self.old.dbc (full_bytes (signs_of_event ev.entry)) }
+        ensures written { out.new.items ≡
+            out.old.items ++ fire_from self.old.port self.old.dbc (full_bytes (signs_of_event ev.entry)) }
         ensures len { array_vec_len out.new ≤ array_vec_len out.old + room self.old.port }
     {
         match ev {
@@ -136,7 +139,8 @@ fn put_short(port: u8, dbc: u8, short: Short, out: &mut Buf) -> u8
     requires port { port < 64 }
     requires room { array_vec_len out.old + 3 * frame_size (port / 8) ≤ 1024 }
     ensures count { result ≡ dbc_behind dbc (short.status ∷ data_of short.status short.data1 short.data2) }
-    ensures written { out.new.items ≡ out.old.items ++ fire_from port dbc (short.status ∷ data_of short.status short.data1 short.data2) }
+    ensures written { out.new.items ≡
+        out.old.items ++ fire_from port dbc (short.status ∷ data_of short.status short.data1 short.data2) }
     ensures len { array_vec_len out.new ≤ array_vec_len out.old + 3 * frame_size (port / 8) }
 {
     let len = data_len(short.status()).unwrap_or(0);
