@@ -34,7 +34,7 @@ fn take_end(frames: &mut Frames, text: &mut Text)
 fn read(bytes: &[u8], frames: &mut Frames, text: &mut Text)
     requires { is_at_end frames.old ≡ false }
 {
-    for byte in bytes {
+    'bytes: for byte in bytes {
         take_byte(frames, *byte, text);
         take_end(frames, text);
     }

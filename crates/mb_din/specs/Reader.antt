@@ -1,9 +1,10 @@
--- What a DIN reader promises (MIDI 1.0 Detailed Specification 4.2): the relation between what it keeps, the entries that
--- it took, and what it told of them.
+-- What a DIN reader promises (MIDI 1.0 Detailed Specification 4.2): the relation between what it keeps, the entries
+-- that it took, and what it told of them.
 --
 --   Stands now es told      the reader took these entries and told this
 --   DinGoes was now ..      what a call took, what it answered, and that the reader stands for both
 --   NextSays was now ..     so it is whatever was taken and told before, and whatever follows
+--   DinAllTold was input    all that is known of the input was told: what `None` says
 --   IsFrontTaken ..         a call takes a front of its input
 --   RunNext now input       a SysEx is open, and a byte of it begins the input
 --   TakesWhole was now ..   a piece was taken whole, and one thing told of it
@@ -50,7 +51,8 @@ pub record Stands (now : State) (entries : List Entry) (told : List Known) : Typ
 abbrev pub DinGoes : (was now : State) (moment : ℕ) (input left : List ℕ) (answer : List Told) →
     (entries : List Entry) (told : List Known) (following : List Entry) → Type 0
 DinGoes was now moment input left answer entries told following =
-    Goes bare_told (λ _. so_far (entries ++ following)) (λ taken. Stands now (entries ++ heard_from was.offset moment taken)) input left answer [] told
+    Goes bare_told (λ _. so_far (entries ++ following))
+    (λ taken. Stands now (entries ++ heard_from was.offset moment taken)) input left answer [] told
 
 -- whatever was taken and told before, and whatever follows the input in the payload
 abbrev pub NextSays : (was now : State) (input left : List ℕ) → List Told → Type 0
@@ -59,6 +61,12 @@ NextSays was now input left answer =
     Stands was entries told → RisesFrom (was.offset + length input) more →
     IsFront told (so_far (entries ++ (heard_from was.offset moment input ++ more))) →
     DinGoes was now moment input left answer entries told (heard_from was.offset moment input ++ more)
+
+abbrev pub DinAllTold : State → List ℕ → Type 0
+DinAllTold was input =
+    (moment : ℕ) (entries : List Entry) (told : List Known) → Stands was entries told →
+    IsFront told (so_far (entries ++ heard_from was.offset moment input)) →
+    told ≡ so_far (entries ++ heard_from was.offset moment input)
 
 -- a call takes a front of its input, and its offset rises by as much
 abbrev pub IsFrontTaken : (was now : State) → (input left : List ℕ) → Type 0
@@ -76,8 +84,7 @@ is_all_data (b ∷ bs) = is_data b && is_all_data bs
 abbrev pub put_to : (offset : ℕ) → State → State
 put_to offset s = record s { offset = offset }
 
--- All of a piece that stands at an offset was taken. It is what a call tells that is given the piece as its input, whatever was taken
--- and told before, and whatever follows the piece in the payload.
+-- All of a piece that stands at an offset was taken. It is what a call tells that is given the piece as its input.
 pub record TakesWhole (was now : State) (at : ℕ) (piece : List ℕ) (answer : List Told) : Type 0 where
   pub offset : now.offset ≡ at + length piece
   pub stays : (entries : List Entry) → Stands was entries (so_far entries) → Stands (put_to at was) entries (so_far entries)

@@ -10,7 +10,7 @@ ghost use Rattle.mb_stream.specs.ReaderLaw.{has_short, begins_run, answer, told_
 ghost use Rattle.mb_stream.specs.Working.{RisesFrom};
 ghost use Rattle.mb_din.specs.State.{owed, open_now, free_now, may_run_now, fresh, is_sound, Rests};
 ghost use Rattle.mb_din.specs.Turn.{one, run, turn};
-ghost use Rattle.mb_din.specs.Reader.{Stands, NextSays, IsFrontTaken, TakesWhole, RunNext, is_all_data};
+ghost use Rattle.mb_din.specs.Reader.{Stands, NextSays, DinAllTold, IsFrontTaken, TakesWhole, RunNext, is_all_data};
 ghost use Rattle.mb_message.specs.Front.{IsFront};
 
 use crate::progress::{
@@ -55,7 +55,8 @@ impl DinReader {
         requires { self.old.offset ≤ offset }
         ensures offset { self.new.offset ≡ offset }
         ensures same { self.new ≡ record self.old { offset = offset } }
-        ensures stands { (entries : List Entry) → Stands self.old entries (so_far entries) → Stands self.new entries (so_far entries) }
+        ensures stands { (entries : List Entry) → Stands self.old entries (so_far entries) →
+            Stands self.new entries (so_far entries) }
     {
         self.offset = offset;
     }
@@ -74,16 +75,15 @@ impl DinReader {
         ensures end { self.new.offset + length input.new.now ≡ self.old.offset + length input.old.now }
         ensures some { OnSome result (answer result ≡ [] → ⊥) }
         ensures none { IfNone result (input.new.now ≡ []) }
-        ensures all_told { IfNone result ((moment : ℕ) (entries : List Entry) (told : List Known) → Stands self.old entries told →
-            IsFront told (so_far (entries ++ heard_from self.old.offset moment input.old.now)) →
-            told ≡ so_far (entries ++ heard_from self.old.offset moment input.old.now)) }
+        ensures all_told { IfNone result (DinAllTold self.old input.old.now) }
         ensures longest { IfSome result (IsLongest input.new.now) }
 
         // What a status breaks is told of before the status is taken: it still stands in the input, and nothing is begun,
         // running or open.
         ensures before { breaks (answer result) ≡ true → StatusNext input.new.now × Rests self.new }
 
-        // Behind a short message nothing is begun and no SysEx is open: a status may run from here on without a byte of its own.
+        // Behind a short message nothing is begun and no SysEx is open: a status may run from here on without a byte of its
+        // own.
         ensures free { has_short (answer result) ≡ true → free_now self.new ≡ true }
 
         // A run is told only where a SysEx was open and the run begins the input.
@@ -93,7 +93,8 @@ impl DinReader {
         ensures few { length (told_signs (answer result)) ≤ length input.old.now }
 
         // A caller's loop ends by this.
-        ensures progress { OnSome result (2 * length input.new.now + owed self.new < 2 * length input.old.now + owed self.old) }
+        ensures progress { OnSome result (2 * length input.new.now + owed self.new <
+            2 * length input.old.now + owed self.old) }
     {
         self.advance(input)
     }
@@ -185,7 +186,8 @@ impl DinReader {
     /// What only the end of the line makes known: a message that was begun and not finished, or an open SysEx. The
     /// reader then stands as a fresh one does, for bytes from its present offset on: a second call answers `None`.
     pub fn finish(&mut self) -> Option<Seen<'static>>
-        ensures told { (entries : List Entry) → Stands self.old entries (so_far entries) → answer result ≡ at_end (last_of entries) }
+        ensures told { (entries : List Entry) → Stands self.old entries (so_far entries) →
+            answer result ≡ at_end (last_of entries) }
         ensures some { OnSome result (answer result ≡ [] → ⊥) }
         ensures when { IsSome result ↔ (free_now self.old ≡ false) }
         ensures as_fresh { self.new ≡ record fresh { offset = self.old.offset } }
@@ -204,7 +206,8 @@ impl DinReader {
         requires free { free_now self.old ≡ true }
         ensures offset { self.new.offset ≡ self.old.offset }
         ensures runs { may_run_now self.new ≡ true }
-        ensures stands { (entries : List Entry) → Stands self.old entries (so_far entries) → Stands self.new (entries ++ Silent status ∷ []) (so_far entries) }
+        ensures stands { (entries : List Entry) → Stands self.old entries (so_far entries) →
+            Stands self.new (entries ++ Silent status ∷ []) (so_far entries) }
     {
         self.progress = Progress::Running(status);
     }
@@ -214,7 +217,8 @@ impl DinReader {
     #[inline(always)]
     pub fn may_run(&self) -> bool
         ensures state { result ≡ may_run_now self.now }
-        ensures law { (entries : List Entry) → Stands self.now entries (so_far entries) → result ≡ may_run (last_of entries) }
+        ensures law { (entries : List Entry) → Stands self.now entries (so_far entries) →
+            result ≡ may_run (last_of entries) }
     {
         is_running(self.progress)
     }
@@ -223,7 +227,8 @@ impl DinReader {
     #[inline(always)]
     pub fn in_sysex(&self) -> bool
         ensures state { result ≡ open_now self.now }
-        ensures law { (entries : List Entry) → Stands self.now entries (so_far entries) → result ≡ is_sysex (last_of entries) }
+        ensures law { (entries : List Entry) → Stands self.now entries (so_far entries) →
+            result ≡ is_sysex (last_of entries) }
     {
         is_open(self.progress)
     }

@@ -1,5 +1,5 @@
--- The parts of a list of frames byte by byte, by counting what of a content is to come. This is no second definition: a law
--- says that both are equal.
+-- The parts of a list of frames byte by byte, by counting what of a content is to come. This is no second definition: a
+-- law says that both are equal.
 --
 --   counted_parts bytes      the parts of a list of bytes
 --   rest_parts left bytes    the same, so many bytes of a content being to come

@@ -33,7 +33,8 @@ framed_from zero bytes = []
 framed_from (suc most) [] = []
 framed_from (suc most) (high ∷ []) = []
 framed_from (suc most) (high ∷ low ∷ bytes) =
-    record { len = 256 * high + low; content = take (256 * high + low) bytes } ∷ framed_from most (drop (256 * high + low) bytes)
+    record { len = 256 * high + low; content = take (256 * high + low) bytes }
+    ∷ framed_from most (drop (256 * high + low) bytes)
 
 abbrev pub framed : List ℕ → List Framed
 framed bytes = framed_from (length bytes) bytes

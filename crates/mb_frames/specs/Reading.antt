@@ -14,7 +14,8 @@ use Rattle.std.specs.Prelude.{◌≡◌, ℕ, ◌+◌, ◌*◌, Bool, true, fals
 use Rattle.mb_frames.specs.Frames.{FramePart, FrameBegin, parts}
 use Rattle.mb_frames.specs.Counting.{counted_parts, rest_parts}
 
--- between frames, behind the first byte of a length, or with so many bytes of a content to come: at 0 the end is to be told
+-- between frames, behind the first byte of a length, or with so many bytes of a content to come: at 0 the end is to be
+-- told
 pub data Place : Type 0 where
   Between : Place
   High : (high : ℕ) → Place

@@ -85,8 +85,8 @@ impl Frames {
         requires some { 0 < count }
         requires room { count ≤ room_of self.old }
         ensures place { self.new ≡ Within (room_of self.old - count) }
-        ensures stands { (content bytes : List ℕ) (so_far : List FramePart) → length content ≡ count → Stands self.old bytes so_far →
-            Stands self.new (bytes ++ content) (so_far ++ map FrameByte content) }
+        ensures stands { (content bytes : List ℕ) (so_far : List FramePart) → length content ≡ count →
+            Stands self.old bytes so_far → Stands self.new (bytes ++ content) (so_far ++ map FrameByte content) }
     {
         self.place = Place::Within(self.room() - count);
     }
@@ -114,7 +114,8 @@ impl Frames {
     #[inline(always)]
     pub fn partial(&self) -> bool
         ensures place { result ≡ is_partial self.now }
-        ensures whole { (bytes : List ℕ) (so_far : List FramePart) → Stands self.now bytes so_far → (result ≡ false) ↔ IsWhole bytes }
+        ensures whole { (bytes : List ℕ) (so_far : List FramePart) → Stands self.now bytes so_far →
+            (result ≡ false) ↔ IsWhole bytes }
     {
         match self.place {
             Place::Between => false,

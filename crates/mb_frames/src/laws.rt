@@ -25,8 +25,8 @@ pub fn written_frames_are_read()
         (contents : List (List ℕ)) × (bytes ≡ flat_map frame contents) }
 {}
 
-/// However a list of bytes was cut: readers that took it and have no end left to tell have told the same, which is all of
-/// its parts, and go on alike.
+/// However a list of bytes was cut: readers that took it and have no end left to tell have told the same, which is all
+/// of its parts, and go on alike.
 pub fn any_cutting()
     ensures all { (bytes : List ℕ) (place : Place) (so_far : List FramePart) → Stands place bytes so_far →
         is_at_end place ≡ false → so_far ≡ parts bytes }

@@ -1,8 +1,8 @@
 //! Frames, the file form of recordings of packets: a length of two bytes, most significant first, and a content.
 //!
-//! `Frames` is where a list of bytes stands that comes in pieces. What was told of it doesn't depend on how the list was
-//! cut: it is the parts of the list so far (`specs/Frames.antt`). It keeps one number, never grows, and refuses nothing.
-//! `put_frame` writes a frame.
+//! `Frames` is where a list of bytes stands that comes in pieces. What was told of it doesn't depend on how the list
+//! was cut: it is the parts of the list so far (`specs/Frames.antt`). It keeps one number, never grows, and refuses
+//! nothing. `put_frame` writes a frame.
 #![tactic(auto)]
 
 mod frames;

@@ -1,5 +1,5 @@
--- What a reader of packets promises, over the byte-stream reader of each port: the relation between what it keeps, the bytes that
--- it took, and what it told of them (the readings of all ports and the notes: `ports_so_far`).
+-- What a reader of packets promises, over the byte-stream reader of each port: the relation between what it keeps, the
+-- bytes that it took, and what it told of them (the readings of all ports and the notes: `ports_so_far`).
 --
 --   Whole U                    what a reader keeps
 --   Holds m n now bs told      it took these bytes and told this

@@ -1,6 +1,6 @@
--- What a writer is handed: marks with their moments, and flushes between them. A flush ends the packet under way on a carrier
--- whose packets hold several marks, and is nothing on the others. Both are the project's own; how a carrier spells a moment is
--- its standard's.
+-- What a writer is handed: marks with their moments, and flushes between them. A flush ends the packet under way on a
+-- carrier whose packets hold several marks, and is nothing on the others. Both are the project's own; how a carrier
+-- spells a moment is its standard's.
 --
 --   Put                a mark at its moment in milliseconds, or a flush
 --   signs_in puts      the marks alone

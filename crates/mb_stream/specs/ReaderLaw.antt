@@ -1,7 +1,7 @@
--- What the readers of all carriers promise. A reader stands for the bytes that it took and for what it told of them, by a
--- relation of its own: nobody has to believe it, since a fresh reader stands for nothing, each call keeps it, and each
--- answer is bound to what becomes known of the bytes. The words here are generic in that relation, in what becomes known
--- of bytes (of one port, or of several with their numbers), and in what an answer shows of it.
+-- What the readers of all carriers promise. A reader stands for the bytes that it took and for what it told of them,
+-- by a relation of its own: nobody has to believe it, since a fresh reader stands for nothing, each call keeps it, and
+-- each answer is bound to what becomes known of the bytes. The words here are generic in that relation, in what becomes
+-- known of bytes (of one port, or of several with their numbers), and in what an answer shows of it.
 --
 --   bare_told k            what is told, without its place
 --   told_by, answer        what an event or a note tells, a run as its bytes; what an answer tells
@@ -35,9 +35,11 @@ abbrev pub answer : Option Seen → List Told
 answer None = []
 answer (Some s) = told_by s
 
--- A call took the front of its input and answered what becomes known, and the reader stands for both. `known` gives what
--- becomes known of a list of bytes, `bare` what an answer shows of it, `now` says what the reader stands for afterwards.
-pub record Goes {K T : Type 0} (bare : K → T) (known : List ℕ → List K) (now : List ℕ → List K → Type 0) (input left : List ℕ) (answer : List T) (bytes : List ℕ) (told : List K) : Type 0 where
+-- A call took the front of its input and answered what becomes known, and the reader stands for both. `known` gives
+-- what becomes known of a list of bytes, `bare` what an answer shows of it, `now` says what the reader stands for
+-- afterwards.
+pub record Goes {K T : Type 0} (bare : K → T) (known : List ℕ → List K) (now : List ℕ → List K → Type 0)
+    (input left : List ℕ) (answer : List T) (bytes : List ℕ) (told : List K) : Type 0 where
   pub taken : List ℕ
   pub front : input ≡ taken ++ left
   pub fresh : List K
@@ -54,7 +56,8 @@ Tells {K} {T} bare known was now input left answer =
 
 abbrev pub AllTold : {K : Type 0} (known : List ℕ → List K) (was : List ℕ → List K → Type 0) (input : List ℕ) → Type 0
 AllTold {K} known was input =
-    (bytes : List ℕ) (told : List K) → was bytes told → IsFront told (known (bytes ++ input)) → told ≡ known (bytes ++ input)
+    (bytes : List ℕ) (told : List K) → was bytes told → IsFront told (known (bytes ++ input)) →
+    told ≡ known (bytes ++ input)
 
 abbrev pub breaks : List Told → Bool
 breaks (Marks AbortSign ∷ ts) = true

@@ -1,6 +1,5 @@
--- The readings of all cables of a USB recording in one list (USB Device Class Definition for MIDI Devices 1.0, section 4), and what the
--- readers promise. Nobody has to believe `UsbStands` and `CableStands`: a fresh reader stands for nothing, each call keeps it,
--- and each answer is bound to the recording's reading.
+-- The readings of all cables of a USB recording in one list (USB Device Class Definition for MIDI Devices 1.0, section
+-- 4), and what the readers promise.
 --
 --   all_cables_so_far bytes       the reading of each cable, each entry with its cable, and the notes on packets, in order
 --   UsbStands now bytes told      a reader of all cables took these bytes and told this
@@ -82,7 +81,8 @@ abbrev pub UsbAllTold : UsbState → List ℕ → Type 0
 UsbAllTold was input = AllTold all_cables_so_far (UsbStands was) input
 
 abbrev pub CableTells : (was now : CableState) (input left : List ℕ) → List Told → Type 0
-CableTells was now input left answer = Tells bare_told (cable_so_far was.cable) (CableStands was) (CableStands now) input left answer
+CableTells was now input left answer =
+    Tells bare_told (cable_so_far was.cable) (CableStands was) (CableStands now) input left answer
 
 abbrev pub CableAllTold : CableState → List ℕ → Type 0
 CableAllTold was input = AllTold (cable_so_far was.cable) (CableStands was) input

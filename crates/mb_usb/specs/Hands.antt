@@ -1,5 +1,5 @@
--- What is done with bytes of the packet under way that its cable carries: they are handed to the cable's reader, which takes a front
--- of them.
+-- What is done with bytes of the packet under way that its cable carries: they are handed to the cable's reader, which
+-- takes a front of them.
 use Rattle.std.specs.Prelude.{◌≡◌, ℕ, ◌+◌, List, ◌++◌, length, take, drop}
 use Rattle.mb_stream.specs.Payload.{Entry}
 use Rattle.mb_stream.specs.Told.{Told}

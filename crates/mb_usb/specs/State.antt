@@ -2,7 +2,7 @@
 --
 --   UsbState               of all sixteen cables
 --   CableState             of one cable
---   usb_packets s          what is kept of packets: the offset, the packet under way and a note of it; cable_packets of one cable
+--   usb_packets s          what is kept of packets: the offset, the packet under way, a note of it; cable_packets
 --   usb_offset s           how many bytes were taken; cable_offset
 --   usb_taken s            how many of them are of an unfinished packet; cable_taken
 --   usb_to_come s          how many bytes the packet under way still carries; cable_to_come

@@ -78,7 +78,8 @@ impl CableReader {
         ensures few { length (told_signs (answer result)) ≤ length input.old.now }
 
         // A caller's loop ends by this.
-        ensures progress { OnSome result (2 * length input.new.now + cable_owed self.new < 2 * length input.old.now + cable_owed self.old) }
+        ensures progress { OnSome result (2 * length input.new.now + cable_owed self.new <
+            2 * length input.old.now + cable_owed self.old) }
     {
         read_cable(self.cable, &mut self.packet, &mut self.din, input)
     }
@@ -87,7 +88,8 @@ impl CableReader {
     /// cable then stands as a fresh one does: a second call answers `None`.
     pub fn finish(&mut self) -> Option<Seen<'static>>
         ensures cable { self.new.cable ≡ self.old.cable }
-        ensures told { (bytes : List ℕ) → CableStands self.old bytes (cable_so_far self.old.cable bytes) → answer result ≡ at_end (last_of (cable_payload self.old.cable bytes)) }
+        ensures told { (bytes : List ℕ) → CableStands self.old bytes (cable_so_far self.old.cable bytes) →
+            answer result ≡ at_end (last_of (cable_payload self.old.cable bytes)) }
         ensures some { OnSome result (answer result ≡ [] → ⊥) }
         ensures when { IsSome result ↔ (free_now self.old.reader ≡ false) }
         ensures as_fresh { self.new.reader ≡ record fresh { offset = self.old.reader.offset } }
@@ -99,7 +101,8 @@ impl CableReader {
     /// How many bytes of an unfinished packet were taken, 0 to 3.
     pub fn partial(&self) -> u8
         ensures state { result ≡ cable_taken self.now }
-        ensures law { (bytes : List ℕ) (told : List Known) → CableStands self.now bytes told → result ≡ length bytes % 4 }
+        ensures law { (bytes : List ℕ) (told : List Known) → CableStands self.now bytes told →
+            result ≡ length bytes % 4 }
     {
         taken(self.packet.under)
     }
@@ -124,7 +127,8 @@ fn read_cable<'a>(
     ensures before { breaks (answer result) ≡ true → StatusNext input.new.now × Rests din.new }
     ensures few { length (told_signs (answer result)) ≤ length input.old.now }
     ensures none { IfNone result (input.new.now ≡ []) }
-    ensures progress { OnSome result (2 * length input.new.now + owed_alone own packet.new din.new < 2 * length input.old.now + owed_alone own packet.old din.old) }
+    ensures progress { OnSome result (2 * length input.new.now + owed_alone own packet.new din.new <
+        2 * length input.old.now + owed_alone own packet.old din.old) }
 {
     'bytes: loop {
         if let Some(note) = packet.take_due() {

@@ -25,7 +25,8 @@ pub fn carry<'a>(packet: &mut Packet, din: &mut DinReader, input: &mut &'a [u8])
     ensures none { IfNone result (input.new.now ≡ drop (left_of packet.old.under) input.old.now) }
     ensures end { packet.new.offset + length input.new.now ≡ packet.old.offset + length input.old.now }
     ensures at { din.new.offset ≡ packet.new.offset }
-    ensures progress { OnSome result (2 * length input.new.now + owed din.new < 2 * length input.old.now + owed din.old) }
+    ensures progress { OnSome result (2 * length input.new.now + owed din.new <
+        2 * length input.old.now + owed din.old) }
 {
     let whole = *input;
     let (piece, _after) = whole.split_at(whole.len().min(left(packet.under) as usize));

@@ -78,7 +78,8 @@ impl UsbReader {
         ensures few { length (port_signs (port_answer result)) ≤ length input.old.now }
 
         // A caller's loop ends by this.
-        ensures progress { OnSome result (2 * length input.new.now + usb_owed self.new < 2 * length input.old.now + usb_owed self.old) }
+        ensures progress { OnSome result (2 * length input.new.now + usb_owed self.new <
+            2 * length input.old.now + usb_owed self.old) }
     {
         read(&mut self.packet, &mut self.dins, input)
     }
@@ -87,7 +88,8 @@ impl UsbReader {
     /// an open SysEx. The cable then stands as a fresh one does: a second call answers `None`.
     pub fn finish_port(&mut self, cable: u8) -> Option<Seen<'static>>
         requires { cable < 16 }
-        ensures told { (bytes : List ℕ) → UsbStands self.old bytes (all_cables_so_far bytes) → answer result ≡ at_end (last_of (cable_payload cable bytes)) }
+        ensures told { (bytes : List ℕ) → UsbStands self.old bytes (all_cables_so_far bytes) →
+            answer result ≡ at_end (last_of (cable_payload cable bytes)) }
         // The same where all was told of the bytes, and other cables were finished since.
         ensures in_turn { (was : UsbState) → usb_reader self.old cable ≡ usb_reader was cable →
             (bytes : List ℕ) → UsbStands was bytes (all_cables_so_far bytes) → answer result ≡ at_end (last_of (cable_payload cable bytes)) }
@@ -103,7 +105,8 @@ impl UsbReader {
     /// How many bytes of an unfinished packet were taken, 0 to 3.
     pub fn partial(&self) -> u8
         ensures state { result ≡ usb_taken self.now }
-        ensures law { (bytes : List ℕ) (told : List Ported) → UsbStands self.now bytes told → result ≡ length bytes % 4 }
+        ensures law { (bytes : List ℕ) (told : List Ported) → UsbStands self.now bytes told →
+            result ≡ length bytes % 4 }
     {
         taken(self.packet.under)
     }

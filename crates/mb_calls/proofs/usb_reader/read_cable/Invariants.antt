@@ -4,7 +4,7 @@ use Rattle.mb_calls.proofs.usb_reader.read_cable.Given as goal
 
 abbrev pub invariant-told : goal.invariant-told
 invariant-told l = record {
-  ends : cable_offset l.reader + length l.rest ≡ l.initiacable_offset l.reader + length l.piece;
+  ends : cable_offset l.reader + length l.rest ≡ cable_offset l.initial.reader + length l.piece;
 }
 
 abbrev pub decreases-told : goal.decreases-told

@@ -4,7 +4,7 @@ use Rattle.mb_calls.proofs.usb_reader.read_piece.Given as goal
 
 abbrev pub invariant-told : goal.invariant-told
 invariant-told l = record {
-  ends : usb_offset l.reader + length l.rest ≡ l.initiausb_offset l.reader + length l.piece;
+  ends : usb_offset l.reader + length l.rest ≡ usb_offset l.initial.reader + length l.piece;
 }
 
 abbrev pub decreases-told : goal.decreases-told
