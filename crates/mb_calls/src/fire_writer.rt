@@ -128,13 +128,16 @@ fn eight_ports_in_one_packet(rt: HostRuntime) {
     put_none(6, &mut bytes);
     put_one(0xf0, &mut bytes);
     assert!(rt; out.as_slice() == bytes.as_slice());
+    out.clear();
+    bytes.clear();
     assert!(rt; writer.drain(&mut out));
     put_head(0, 8, &mut bytes);
     put_one(5, &mut bytes);
     put_none(7, &mut bytes);
     assert!(rt; out.as_slice() == bytes.as_slice());
+    out.clear();
     assert!(rt; !writer.drain(&mut out));
-    assert!(rt; out.len() == 84);
+    assert!(rt; out.is_empty());
 }
 
 #[test]

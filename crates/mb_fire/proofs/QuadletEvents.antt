@@ -212,9 +212,6 @@ inner-quadlet f d n b r q m e at l x y z t h =
 
 -- A block that the recording ends in.
 
-four_on : (at : ℕ) → at + 1 + 1 + 1 + 1 ≡ at + 4
-four_on at = omega arith
-
 part-events : (f : ℕ → Option ℕ) (d n b r q m : ℕ) (e : Option ℕ) (at l : ℕ) (xs : List ℕ) (t : Bool) → (is_midi l && nat_lt m 8) ≡ t →
     events_from (fire f) (U (Within (S d n b r q (one_midi t m) (left_by t l) (skip_by t l))) e) (at + 1) xs ≡ own (f (port n (one_midi t m))) (at + 1) (take (left_by t l) xs) →
     events_from (fire f) (U (Within (S d n b r q m 0 0)) e) at (l ∷ xs) ≡ quadlet_events f (n % 8) m (record { at = at; label = l; rest = xs } ∷ [])

@@ -92,18 +92,6 @@ room_left i s n r h l e = plain (8 - (i + 1)) s n r (subst (λ z. n + z * s ≤ 
         mul_suc_left : (k s : ℕ) → suc k * s ≡ s + k * s
         mul_suc_left k s = grind (arith)
 
-pub room_one : (i s n : ℕ) → i < 8 → n + (8 - i) * s ≤ 1024 → n + s ≤ 1024
-room_one i s n h l = plain (8 - (i + 1)) s n (subst (λ z. n + z * s ≤ 1024) (back i h) l)
-  where
-    back : (i : ℕ) → i < 8 → 8 - i ≡ suc (8 - (i + 1))
-    back i h = omega arith
-
-    plain : (j s n : ℕ) → n + suc j * s ≤ 1024 → n + s ≤ 1024
-    plain j s n l = let m : suc j * s ≡ s + j * s = mul_suc_left j s in omega arith
-      where
-        mul_suc_left : (k s : ℕ) → suc k * s ≡ s + k * s
-        mul_suc_left k s = grind (arith)
-
 pub at_read : (now : List Waiting) (i : ℕ) (d : Waiting) → i < length now → d ≡ slice_index_or now i d → ring_at now i ≡ d
 at_read now i d h e = sym (get_or_read now i d h e nothing)
 
@@ -115,6 +103,3 @@ still_there i was now h p = p i h ∙ ap (λ t. if t then popped (ring_at was i)
 
 pub long_behind : (k : ℕ) (w : Option ℕ) (out behind : List ℕ) → behind ≡ out ++ block k w → length behind ≡ length out + 4 * (k + 1)
 long_behind k w out behind e = ap length e ∙ length-append {A = ℕ} out (block k w) ∙ ap (λ z. length out + z) (block-length k w)
-
-pub quadlet_behind : (w : Option ℕ) (out behind : List ℕ) → behind ≡ out ++ quadlet w → length behind ≡ length out + 4
-quadlet_behind w out behind e = ap length e ∙ length-append {A = ℕ} out (quadlet w) ∙ ap (λ z. length out + z) (quadlet-length w)

@@ -2,11 +2,11 @@
 
 ghost use Rattle.std.specs.Prelude.{◌≡◌, ◌+◌, ◌*◌, ◌/◌, ◌<◌, ◌≤◌, true, false, List, [], ◌∷◌, ◌++◌, length};
 ghost use Rattle.arrayvec.specs.ArrayVec.{array_vec_len};
-ghost use Rattle.mb_message.specs.Signs.{Sign, suits_event, IsRunOf, open_behind, signs_of_event};
+ghost use Rattle.mb_message.specs.Signs.{Sign, suits_event, open_behind, signs_of_event};
 ghost use Rattle.mb_stream.specs.Appended.{Appended};
 ghost use Rattle.mb_stream.specs.Spelling.{data_of, full_bytes};
 ghost use Rattle.mb_fire.specs.Running.{fire_from, dbc_behind};
-ghost use Rattle.mb_fire.specs.PortWriter.{Stands, fresh, longest, room, frame_size};
+ghost use Rattle.mb_fire.specs.PortWriter.{Stands, fresh, longest, room, event_room, frame_size};
 ghost use Rattle.mb_fire.specs.Written.{fire_written};
 
 use crate::packet::put_packet;
@@ -55,7 +55,7 @@ impl FirePortWriter {
         self.in_sysex
     }
 
-    /// How many bytes the longest run has that `put` takes.
+    /// How many bytes a run has at most for which `room` is enough.
     #[inline(always)]
     pub fn longest(&self) -> usize
         ensures { result ≡ longest self.now.port }
@@ -63,7 +63,7 @@ impl FirePortWriter {
         if self.port < 8 { 16 } else { 3 }
     }
 
-    /// The free bytes that `put` asks for.
+    /// The most free bytes that `put` asks for, where a run has no more than `longest` bytes.
     #[inline(always)]
     pub fn room(&self) -> usize
         ensures { result ≡ room self.now.port }
@@ -71,15 +71,14 @@ impl FirePortWriter {
         if self.port < 8 { 672 } else { 798 }
     }
 
-    /// Appends a packet for each byte of an event. A run has at most `longest` bytes.
+    /// Appends a packet for each byte of an event.
     #[inline(always)]
     pub fn put(&mut self, ev: Ev<'_>, out: &mut Buf)
-        requires room { array_vec_len out.old + room self.old.port ≤ 1024 }
+        requires room { array_vec_len out.old + event_room self.old.port ev ≤ 1024 }
         requires suits { suits_event self.old.in_sysex ev ≡ true }
-        requires run { IsRunOf (longest self.old.port) ev }
         ensures port { self.new.port ≡ self.old.port }
         ensures in_sysex { self.new.in_sysex ≡ open_behind self.old.in_sysex ev.entry }
-        ensures len { array_vec_len out.new ≤ array_vec_len out.old + room self.old.port }
+        ensures len { array_vec_len out.new ≡ array_vec_len out.old + event_room self.old.port ev.entry }
         ensures stands { (marks : List Sign) → Stands self.old marks →
             Stands self.new (marks ++ signs_of_event ev.entry) }
         ensures written { (marks : List Sign) → Stands self.old marks →
@@ -103,15 +102,14 @@ impl FirePortWriter {
     /// `put`, said byte by byte.
     #[inline(always)]
     fn write(&mut self, ev: Ev<'_>, out: &mut Buf)
-        requires room { array_vec_len out.old + room self.old.port ≤ 1024 }
+        requires room { array_vec_len out.old + event_room self.old.port ev ≤ 1024 }
         requires suits { suits_event self.old.in_sysex ev ≡ true }
-        requires run { IsRunOf (longest self.old.port) ev }
         ensures port { self.new.port ≡ self.old.port }
         ensures in_sysex { self.new.in_sysex ≡ open_behind self.old.in_sysex ev.entry }
         ensures count { self.new.dbc ≡ dbc_behind self.old.dbc (full_bytes (signs_of_event ev.entry)) }
         ensures written { out.new.items ≡
             out.old.items ++ fire_from self.old.port self.old.dbc (full_bytes (signs_of_event ev.entry)) }
-        ensures len { array_vec_len out.new ≤ array_vec_len out.old + room self.old.port }
+        ensures len { array_vec_len out.new ≡ array_vec_len out.old + event_room self.old.port ev.entry }
     {
         match ev {
             Ev::Short(short) => {
@@ -137,11 +135,13 @@ impl FirePortWriter {
 #[inline(always)]
 fn put_short(port: u8, dbc: u8, short: Short, out: &mut Buf) -> u8
     requires port { port < 64 }
-    requires room { array_vec_len out.old + 3 * frame_size (port / 8) ≤ 1024 }
+    requires room { array_vec_len out.old +
+        frame_size (port / 8) * length (short.status ∷ data_of short.status short.data1 short.data2) ≤ 1024 }
     ensures count { result ≡ dbc_behind dbc (short.status ∷ data_of short.status short.data1 short.data2) }
     ensures written { out.new.items ≡
         out.old.items ++ fire_from port dbc (short.status ∷ data_of short.status short.data1 short.data2) }
-    ensures len { array_vec_len out.new ≤ array_vec_len out.old + 3 * frame_size (port / 8) }
+    ensures len { array_vec_len out.new ≡ array_vec_len out.old +
+        frame_size (port / 8) * length (short.status ∷ data_of short.status short.data1 short.data2) }
 {
     let len = data_len(short.status()).unwrap_or(0);
     if len == 0 {
