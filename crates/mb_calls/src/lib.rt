@@ -9,6 +9,10 @@ mod denote;
 #[cfg(test)]
 mod din;
 #[cfg(test)]
+mod fire_reader;
+#[cfg(test)]
+mod fire_writer;
+#[cfg(test)]
 mod frames;
 #[cfg(test)]
 mod marks;
