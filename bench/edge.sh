@@ -1,6 +1,6 @@
 #!/usr/bin/env bash
-# What the built program does at its edges: bad words, and streams that fail or come slowly. Ends with status 1 where one answer
-# is wrong. Run it after `make`; another program is named by its first word.
+# What the built program does at its edges: bad words, and streams that fail or come slowly. Ends with status 1 where
+# one answer is wrong. Run it after `make`; another program is named by its first word.
 cd "$(dirname "$0")/.." || exit 1
 program=$(realpath "${1:-./midibridge}")
 [ -x "$program" ] || { echo "no $program: run make first"; exit 1; }
