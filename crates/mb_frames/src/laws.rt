@@ -1,6 +1,9 @@
 //! Laws of the definitions. Each function does nothing; what is proved is its contract.
 
-ghost use Rattle.std.specs.Prelude.{◌≡◌, ℕ, List, ◌++◌, false, flat_map};
+ghost use Rattle.std.specs.Prelude.{◌≡◌, ℕ, Bool, List, [], ◌++◌, true, false, None, flat_map};
+ghost use Rattle.mb_frames.specs.Tapes.{AreRight, Record, RecordPart, TapeState, after, behind_records, fault_in, fresh};
+ghost use Rattle.mb_frames.specs.Tapes.{parts_from, record_parts, tape, tape_fault, tape_parts, tape_whole};
+ghost use Rattle.mb_frames.specs.TapeReading.{TapeStands};
 ghost use Rattle.mb_frames.specs.Frames.{AreBytes, Cut, FramePart, IsUnfinished, frame, frame_parts, parts, unfinished_parts};
 ghost use Rattle.mb_frames.specs.Counting.{counted_parts};
 ghost use Rattle.mb_frames.specs.Reading.{IsWhole, Place, Stands, from, is_at_end};
@@ -36,4 +39,21 @@ pub fn any_cutting()
     ensures alike { (bytes : List ℕ) (one other : Place) (so_far as_well : List FramePart) →
         Stands one bytes so_far → Stands other bytes as_well → is_at_end one ≡ false → is_at_end other ≡ false →
         (more : List ℕ) → from one more ≡ from other more }
+{}
+
+/// A tape of right records has their parts, is whole and has no fault, and whatever follows is read behind them.
+pub fn tapes_are_records()
+    ensures parts { (second : Bool) (records : List Record) (more : List ℕ) → AreRight second 0 records →
+        tape_parts (tape second records ++ more) ≡ flat_map (record_parts second) records ++ parts_from (behind_records second records) more }
+    ensures state { (second : Bool) (records : List Record) (more : List ℕ) → AreRight second 0 records →
+        after fresh (tape second records ++ more) ≡ after (behind_records second records) more }
+    ensures whole { (second : Bool) (records : List Record) → AreRight second 0 records → tape_whole (tape second records) ≡ true }
+    ensures right { (second : Bool) (records : List Record) → AreRight second 0 records → tape_fault (tape second records) ≡ None }
+{}
+
+/// However a tape was cut: what is read of it is all of its parts where no more is to be told, and whether it is whole, and its
+/// first fault, are those of the bytes that were taken.
+pub fn any_tape_cutting()
+    ensures all { (bytes : List ℕ) (t : TapeState) (so_far : List RecordPart) → TapeStands t bytes so_far → parts_from t [] ≡ [] → so_far ≡ tape_parts bytes }
+    ensures fault { (bytes : List ℕ) (t : TapeState) (so_far : List RecordPart) → TapeStands t bytes so_far → tape_fault bytes ≡ fault_in t.place }
 {}

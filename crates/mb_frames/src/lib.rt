@@ -6,9 +6,12 @@
 #![tactic(auto)]
 
 mod frames;
+mod front;
 mod put;
+mod tape;
 
 pub use frames::Frames;
 pub use put::put_frame;
+pub use tape::{Tape, TapeFault, TapePart};
 
 pub mod laws;

@@ -1,0 +1,332 @@
+//! Reading a tape from pieces.
+
+ghost use Rattle.std.specs.Prelude.{◌≡◌, ◌≢◌, ◌⊎◌, ◌↔◌, ℕ, ◌+◌, ◌-◌, ◌*◌, ◌<◌, ◌≤◌, not, List, [], ◌∷◌, ◌++◌, length, take, true, false, OnSome, IfOk, IfErr, OnOk, OnErr, Ok, Err};
+ghost use Rattle.mb_frames.specs.Tapes.{RecordPart, TapeState, begin_by, behind, behind_head, behind_magic, fits_magic, fresh, header_fault, header_of, header_size, is_whole, microseconds, most_milliseconds, number, parts_at, parts_from, tape_fault, tape_parts, tape_whole};
+ghost use Rattle.mb_frames.specs.TapeReading.{BeginsOnly, InHead, FaultStands, IsOver, TapeLongest, TapeStands, TapeTakes, tape_owed, tape_told, told_of};
+ghost use Rattle.mb_frames.specs.declared.tape.TapeFault.{TapeFault};
+ghost use Rattle.mb_frames.specs.declared.tape.Place.TheVariants as place;
+ghost use Rattle.arrayvec.specs.ArrayVec.{array_vec_len};
+
+use crate::front::{take_byte, take_front};
+use arrayvec::ArrayVec;
+use std::marker::Model;
+
+/// So many milliseconds are at most as many microseconds as eight bytes hold.
+const MOST_MILLISECONDS: u64 = 18_446_744_073_709_551;
+
+/// A part of a tape.
+#[derive(Clone, Copy, Debug, PartialEq, Eq)]
+pub enum TapePart<'a> {
+    /// A record begins: its moment in microseconds, its track, and how many bytes it has.
+    Begin { moment: u64, track: u8, len: u16 },
+    /// Bytes of it, never none: a part of the caller's piece.
+    Bytes(&'a [u8]),
+    /// It ends.
+    End,
+}
+
+/// What is wrong with a tape. Moments are as they stand on it.
+#[derive(Clone, Copy, Debug, PartialEq, Eq)]
+pub enum TapeFault {
+    /// It begins with no magic.
+    Magic,
+    /// A record's moment is below that of the record before.
+    Back { was: u64, now: u64 },
+    /// A moment in milliseconds is too great.
+    Far { now: u64 },
+    /// A record has no bytes.
+    Zero,
+}
+
+/// Where the reader stands.
+#[derive(Clone, Copy, Debug, PartialEq, Eq)]
+enum Place {
+    /// In the magic.
+    Magic,
+    /// Between records, or in a header.
+    Header,
+    /// So many bytes of a record are to come. At 0 its end is to be told.
+    Within(u16),
+    /// Behind a fault.
+    Broken(TapeFault),
+}
+
+/// A reader of tapes.
+#[derive(Debug, Drop)]
+pub struct Tape {
+    place: Place,
+    /// The bytes of the magic, or of the header under way.
+    head: ArrayVec<u8, 11>,
+    second: bool,
+    last: u64,
+    track: u8,
+}
+
+impl Model for Tape {
+    ghost use Rattle.std.specs.Prelude.{length};
+    ghost use Rattle.mb_frames.specs.Tapes.{TapeState};
+    ghost use Rattle.mb_frames.specs.TapeReading.{HeadFits};
+
+    ghost Value = { TapeState };
+
+    ghost view = { λ t. record { place = t.place; head = t.head.items; second = t.second; last = t.last; track = t.track } };
+
+    ghost invariant = { λ t. HeadFits t.place t.second (length t.head.items) };
+}
+
+impl Tape {
+    /// Nothing was taken.
+    pub fn new() -> Tape
+        ensures fresh { result ≡ fresh }
+        ensures stands { TapeStands result [] [] }
+    {
+        Tape {
+            place: Place::Magic,
+            head: ArrayVec::new(),
+            second: false,
+            last: 0,
+            track: 0,
+        }
+    }
+
+    /// The next part, whose bytes it takes from the front of the input. `Begin` comes once a header was taken, `End` after the
+    /// last byte of a record; `None` exactly where the input is used up and all parts of it are told. A fault comes at the
+    /// first byte that differs from both magics, or at the last byte of a header; every later call answers the same one, and
+    /// takes nothing.
+    pub fn next<'a>(&mut self, input: &mut &'a [u8]) -> Result<Option<TapePart<'a>>, TapeFault>
+        ensures step { TapeTakes self.old self.new input.old.now input.new.now (tape_told result) }
+        // Whatever was taken and told before.
+        ensures stands { (bytes : List ℕ) (so_far : List RecordPart) → TapeStands self.old bytes so_far →
+            (taken : List ℕ) × (input.old.now ≡ taken ++ input.new.now) × TapeStands self.new (bytes ++ taken) (so_far ++ tape_told result) }
+        ensures fault { FaultStands self.new.place result }
+        ensures sticky { (f : TapeFault) → self.old.place ≡ place.Broken f → (result ≡ Err f) × (self.new ≡ self.old) × (input.new.now ≡ input.old.now) }
+        ensures none { IsOver result ((input.new.now ≡ []) × (parts_from self.new [] ≡ [])) }
+        ensures longest { IfOk result (TapeLongest self.old input.old.now) }
+        ensures some { IfOk result (λ p. (p ≡ None) ⊎ (told_of p ≢ [])) }
+        ensures progress { IfOk result (λ p. (p ≡ None) ⊎ (2 * length input.new.now + tape_owed self.new < 2 * length input.old.now + tape_owed self.old)) }
+    {
+        match self.place {
+            Place::Within(0) => {
+                self.place = Place::Header;
+                Ok(Some(TapePart::End))
+            }
+            Place::Within(left) => match take_front(left, input) {
+                Some(bytes) => {
+                    self.place = Place::Within(left - bytes.len() as u16);
+                    Ok(Some(TapePart::Bytes(bytes)))
+                }
+                None => Ok(None),
+            },
+            Place::Broken(fault) => Err(fault),
+            Place::Magic | Place::Header => self.take_head(input),
+        }
+    }
+
+    /// Takes bytes of the magic or of a header until it is whole.
+    fn take_head<'a>(&mut self, input: &mut &'a [u8]) -> Result<Option<TapePart<'a>>, TapeFault>
+        requires { InHead self.old }
+        ensures step { TapeTakes self.old self.new input.old.now input.new.now (tape_told result) }
+        ensures fault { FaultStands self.new.place result }
+        ensures none { IsOver result ((input.new.now ≡ []) × InHead self.new) }
+        ensures some { IfOk result (λ p. (p ≡ None) ⊎ (told_of p ≢ [])) }
+        ensures begins { IfOk result (TapeLongest self.old input.old.now) }
+        ensures progress { IfOk result (λ p. (p ≡ None) ⊎ (2 * length input.new.now + tape_owed self.new < 2 * length input.old.now + tape_owed self.old)) }
+    {
+        'bytes: while let Some(byte) = take_byte(input) {
+            match self.take(byte) {
+                Ok(None) => {}
+                Ok(Some(part)) => return Ok(Some(part)),
+                Err(fault) => return Err(fault),
+            }
+        }
+        Ok(None)
+    }
+
+    /// Takes a byte of the magic or of a header.
+    fn take<'a>(&mut self, byte: u8) -> Result<Option<TapePart<'a>>, TapeFault>
+        requires { InHead self.old }
+        ensures state { self.new ≡ behind self.old byte }
+        ensures told { tape_told result ≡ parts_at self.old byte }
+        ensures fault { FaultStands self.new.place result }
+        ensures none { IsOver result (InHead self.new) }
+        ensures begins { BeginsOnly result }
+    {
+        match self.place {
+            Place::Magic => self.take_magic(byte),
+            Place::Header | Place::Within(_) | Place::Broken(_) => self.take_header(byte),
+        }
+    }
+
+    /// Takes a byte of the magic.
+    fn take_magic<'a>(&mut self, byte: u8) -> Result<Option<TapePart<'a>>, TapeFault>
+        requires { self.old.place ≡ place.Magic }
+        ensures state { self.new ≡ behind_magic self.old byte }
+        ensures told { tape_told result ≡ [] }
+        ensures fault { FaultStands self.new.place result }
+        ensures none { IsOver result (InHead self.new) }
+        ensures begins { BeginsOnly result }
+    {
+        let at = self.head.len();
+        if !fits_magic(at, byte) {
+            self.place = Place::Broken(TapeFault::Magic);
+            return Err(TapeFault::Magic);
+        }
+        if at == 3 {
+            self.place = Place::Header;
+            self.head.clear();
+            self.second = byte == 0x32;
+        } else {
+            self.head.push(byte);
+        }
+        Ok(None)
+    }
+
+    /// Takes a byte of a header.
+    fn take_header<'a>(&mut self, byte: u8) -> Result<Option<TapePart<'a>>, TapeFault>
+        requires { self.old.place ≡ place.Header }
+        ensures state { self.new ≡ behind_head self.old (self.old.head ++ byte ∷ []) }
+        ensures told { tape_told result ≡ begin_by self.new.place self.new }
+        ensures fault { FaultStands self.new.place result }
+        ensures none { IsOver result (InHead self.new) }
+        ensures begins { BeginsOnly result }
+    {
+        self.head.push(byte);
+        if self.head.len() != header_size(self.second) {
+            return Ok(None);
+        }
+        let header = header_of(self.second, self.head.as_slice());
+        self.head.clear();
+        match header_fault(self.second, self.last, header) {
+            Some(fault) => {
+                self.place = Place::Broken(fault);
+                Err(fault)
+            }
+            None => {
+                self.place = Place::Within(header.len);
+                self.last = header.moment;
+                self.track = header.track;
+                Ok(Some(TapePart::Begin {
+                    moment: microseconds(self.second, header.moment),
+                    track: header.track,
+                    len: header.len,
+                }))
+            }
+        }
+    }
+
+    /// Whether the bytes taken are no whole tape.
+    pub fn partial(&self) -> bool
+        ensures state { result ≡ not (is_whole self.now) }
+        ensures whole { (bytes : List ℕ) (so_far : List RecordPart) → TapeStands self.now bytes so_far → result ≡ not (tape_whole bytes) }
+    {
+        match self.place {
+            Place::Magic | Place::Broken(_) => true,
+            Place::Header => !self.head.is_empty(),
+            Place::Within(left) => left != 0,
+        }
+    }
+}
+
+/// What a header says.
+#[derive(Clone, Copy, Debug, PartialEq, Eq)]
+struct Header {
+    moment: u64,
+    track: u8,
+    len: u16,
+}
+
+#[inline(always)]
+fn fits_magic(at: usize, byte: u8) -> bool
+    ensures { result ≡ fits_magic at byte }
+{
+    match at {
+        0 => byte == 0x4d,
+        1 => byte == 0x42,
+        2 => byte == 0x54,
+        _ => byte == 0x31 || byte == 0x32,
+    }
+}
+
+#[inline(always)]
+fn header_size(second: bool) -> usize
+    ensures { result ≡ header_size second }
+{
+    if second { 11 } else { 10 }
+}
+
+/// What a whole header says.
+fn header_of(second: bool, bytes: &[u8]) -> Header
+    requires { length bytes.now ≡ header_size second }
+    ensures moment { result.moment ≡ (header_of second bytes.now).moment }
+    ensures track { result.track ≡ (header_of second bytes.now).track }
+    ensures len { result.len ≡ (header_of second bytes.now).len }
+{
+    let moment = eight(&bytes[..8]);
+    if second {
+        Header {
+            moment,
+            track: bytes[8],
+            len: two(&bytes[9..]),
+        }
+    } else {
+        Header {
+            moment,
+            track: 0,
+            len: two(&bytes[8..]),
+        }
+    }
+}
+
+/// A number of eight bytes.
+fn eight(bytes: &[u8]) -> u64
+    requires { length bytes.now ≡ 8 }
+    ensures { result ≡ number bytes.now }
+{
+    let high = four(&bytes[..4]);
+    let low = four(&bytes[4..]);
+    0x1_0000_0000 * u64::from(high) + u64::from(low)
+}
+
+fn four(bytes: &[u8]) -> u32
+    requires { length bytes.now ≡ 4 }
+    ensures { result ≡ number bytes.now }
+{
+    let high = two(&bytes[..2]);
+    let low = two(&bytes[2..]);
+    0x1_0000 * u32::from(high) + u32::from(low)
+}
+
+fn two(bytes: &[u8]) -> u16
+    requires { length bytes.now ≡ 2 }
+    ensures { result ≡ number bytes.now }
+{
+    256 * u16::from(bytes[0]) + u16::from(bytes[1])
+}
+
+/// What is wrong with a header behind a record of this moment.
+fn header_fault(second: bool, last: u64, header: Header) -> Option<TapeFault>
+    ensures fault { result ≡ header_fault second last (record { moment = header.moment; track = header.track; len = header.len }) }
+    ensures fits { second ≡ false → result ≡ None → header.moment ≤ most_milliseconds }
+{
+    if header.moment < last {
+        return Some(TapeFault::Back {
+            was: last,
+            now: header.moment,
+        });
+    }
+    if !second && header.moment > MOST_MILLISECONDS {
+        return Some(TapeFault::Far { now: header.moment });
+    }
+    if header.len == 0 {
+        return Some(TapeFault::Zero);
+    }
+    None
+}
+
+/// A moment of a tape in microseconds.
+fn microseconds(second: bool, moment: u64) -> u64
+    requires { second ≡ false → moment ≤ most_milliseconds }
+    ensures { result ≡ microseconds second moment }
+{
+    if second { moment } else { 1000 * moment }
+}
