@@ -1,12 +1,13 @@
 //! Laws of the definitions. Each function does nothing; what is proved is its contract.
 
-ghost use Rattle.std.specs.Prelude.{◌≡◌, ℕ, Bool, List, [], ◌++◌, true, false, None, flat_map};
-ghost use Rattle.mb_frames.specs.Tapes.{AreRight, Record, RecordPart, TapeState, after, behind_records, fault_in, fresh};
-ghost use Rattle.mb_frames.specs.Tapes.{parts_from, record_parts, tape, tape_fault, tape_parts, tape_whole};
-ghost use Rattle.mb_frames.specs.TapeReading.{TapeStands};
-ghost use Rattle.mb_frames.specs.Frames.{AreBytes, Cut, FramePart, IsUnfinished, frame, frame_parts, parts, unfinished_parts};
+ghost use Rattle.std.specs.Prelude.{◌≡◌, ℕ, Bool, List, [], ◌++◌, false, flat_map};
+ghost use Rattle.mb_frames.specs.Frames.{AreBytes, Cut, FramePart, IsUnfinished, frame, frame_parts, parts};
+ghost use Rattle.mb_frames.specs.Frames.{unfinished_parts};
 ghost use Rattle.mb_frames.specs.Counting.{counted_parts};
 ghost use Rattle.mb_frames.specs.Reading.{IsWhole, Place, Stands, from, is_at_end};
+ghost use Rattle.mb_frames.specs.Tapes.{AreRight, Record, RecordPart, Whole, record_parts, tape, tape_parts, tape_read};
+ghost use Rattle.mb_frames.specs.TapeSteps.{TapeState, behind_records, ending_from, fresh, parts_from};
+ghost use Rattle.mb_frames.specs.TapeReading.{TapeStands};
 
 /// A list of bytes is frames, and a last one that is unfinished. Its parts are theirs.
 pub fn lists_are_frames()
@@ -41,19 +42,28 @@ pub fn any_cutting()
         (more : List ℕ) → from one more ≡ from other more }
 {}
 
+/// What is told of a tape byte by byte is what its definition tells, and it ends alike.
+pub fn tapes_by_steps()
+    ensures parts { (bytes : List ℕ) → tape_parts bytes ≡ parts_from fresh bytes }
+    ensures ending { (bytes : List ℕ) → (tape_read bytes).ending ≡ ending_from fresh bytes }
+{}
+
 /// A tape of right records has their parts, is whole and has no fault, and whatever follows is read behind them.
 pub fn tapes_are_records()
     ensures parts { (second : Bool) (records : List Record) (more : List ℕ) → AreRight second 0 records →
-        tape_parts (tape second records ++ more) ≡ flat_map (record_parts second) records ++ parts_from (behind_records second records) more }
-    ensures state { (second : Bool) (records : List Record) (more : List ℕ) → AreRight second 0 records →
-        after fresh (tape second records ++ more) ≡ after (behind_records second records) more }
-    ensures whole { (second : Bool) (records : List Record) → AreRight second 0 records → tape_whole (tape second records) ≡ true }
-    ensures right { (second : Bool) (records : List Record) → AreRight second 0 records → tape_fault (tape second records) ≡ None }
+        tape_parts (tape second records ++ more) ≡
+        flat_map (record_parts second) records ++ parts_from (behind_records second records) more }
+    ensures ending { (second : Bool) (records : List Record) (more : List ℕ) → AreRight second 0 records →
+        (tape_read (tape second records ++ more)).ending ≡ ending_from (behind_records second records) more }
+    ensures whole { (second : Bool) (records : List Record) → AreRight second 0 records →
+        (tape_read (tape second records)).ending ≡ Whole }
 {}
 
-/// However a tape was cut: what is read of it is all of its parts where no more is to be told, and whether it is whole, and its
-/// first fault, are those of the bytes that were taken.
+/// However a tape was cut: what is read of it is all of its parts where no more is to be told, and how it ends is how the
+/// bytes that were taken do.
 pub fn any_tape_cutting()
-    ensures all { (bytes : List ℕ) (t : TapeState) (so_far : List RecordPart) → TapeStands t bytes so_far → parts_from t [] ≡ [] → so_far ≡ tape_parts bytes }
-    ensures fault { (bytes : List ℕ) (t : TapeState) (so_far : List RecordPart) → TapeStands t bytes so_far → tape_fault bytes ≡ fault_in t.place }
+    ensures all { (bytes : List ℕ) (t : TapeState) (so_far : List RecordPart) → TapeStands t bytes so_far →
+        parts_from t [] ≡ [] → so_far ≡ tape_parts bytes }
+    ensures ending { (bytes : List ℕ) (t : TapeState) (so_far : List RecordPart) → TapeStands t bytes so_far →
+        (tape_read bytes).ending ≡ ending_from t [] }
 {}

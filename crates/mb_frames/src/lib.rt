@@ -7,6 +7,7 @@
 
 mod frames;
 mod front;
+mod header;
 mod put;
 mod tape;
 

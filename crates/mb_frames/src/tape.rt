@@ -1,18 +1,19 @@
 //! Reading a tape from pieces.
 
-ghost use Rattle.std.specs.Prelude.{◌≡◌, ◌≢◌, ◌⊎◌, ◌↔◌, ℕ, ◌+◌, ◌-◌, ◌*◌, ◌<◌, ◌≤◌, not, List, [], ◌∷◌, ◌++◌, length, take, true, false, OnSome, IfOk, IfErr, OnOk, OnErr, Ok, Err};
-ghost use Rattle.mb_frames.specs.Tapes.{RecordPart, TapeState, begin_by, behind, behind_head, behind_magic, fits_magic, fresh, header_fault, header_of, header_size, is_whole, microseconds, most_milliseconds, number, parts_at, parts_from, tape_fault, tape_parts, tape_whole};
-ghost use Rattle.mb_frames.specs.TapeReading.{BeginsOnly, InHead, FaultStands, IsOver, TapeLongest, TapeStands, TapeTakes, tape_owed, tape_told, told_of};
+ghost use Rattle.std.specs.Prelude.{◌≡◌, ◌≢◌, ◌⊎◌, ℕ, ◌+◌, ◌*◌, ◌<◌, ◌≤◌, not, List, [], ◌∷◌, ◌++◌, length, false};
+ghost use Rattle.std.specs.Prelude.{IfOk, Err};
+ghost use Rattle.mb_frames.specs.Tapes.{RecordPart, is_whole, tape_whole};
+ghost use Rattle.mb_frames.specs.TapeSteps.{begin_by, behind, behind_head, behind_magic, ending_at, fresh, parts_at};
+ghost use Rattle.mb_frames.specs.TapeSteps.{parts_from};
+ghost use Rattle.mb_frames.specs.TapeReading.{BeginsOnly, InHead, FaultStands, IsOver, TapeLongest, TapeStands};
+ghost use Rattle.mb_frames.specs.TapeReading.{TapeTakes, tape_owed, tape_told, told_of};
 ghost use Rattle.mb_frames.specs.declared.tape.TapeFault.{TapeFault};
 ghost use Rattle.mb_frames.specs.declared.tape.Place.TheVariants as place;
-ghost use Rattle.arrayvec.specs.ArrayVec.{array_vec_len};
 
 use crate::front::{take_byte, take_front};
+use crate::header::{Header, fits_magic, header_fault, header_of, header_size, microseconds};
 use arrayvec::ArrayVec;
 use std::marker::Model;
-
-/// So many milliseconds are at most as many microseconds as eight bytes hold.
-const MOST_MILLISECONDS: u64 = 18_446_744_073_709_551;
 
 /// A part of a tape.
 #[derive(Clone, Copy, Debug, PartialEq, Eq)]
@@ -64,12 +65,13 @@ pub struct Tape {
 
 impl Model for Tape {
     ghost use Rattle.std.specs.Prelude.{length};
-    ghost use Rattle.mb_frames.specs.Tapes.{TapeState};
+    ghost use Rattle.mb_frames.specs.TapeSteps.{TapeState};
     ghost use Rattle.mb_frames.specs.TapeReading.{HeadFits};
 
     ghost Value = { TapeState };
 
-    ghost view = { λ t. record { place = t.place; head = t.head.items; second = t.second; last = t.last; track = t.track } };
+    ghost view = { λ t. record { place = t.place; head = t.head.items; second = t.second; last = t.last;
+        track = t.track } };
 
     ghost invariant = { λ t. HeadFits t.place t.second (length t.head.items) };
 }
@@ -89,21 +91,27 @@ impl Tape {
         }
     }
 
-    /// The next part, whose bytes it takes from the front of the input. `Begin` comes once a header was taken, `End` after the
-    /// last byte of a record; `None` exactly where the input is used up and all parts of it are told. A fault comes at the
-    /// first byte that differs from both magics, or at the last byte of a header; every later call answers the same one, and
-    /// takes nothing.
+    /// The next part, whose bytes it takes from the front of the input. `Begin` comes once a header was taken, `End` after
+    /// the last byte of a record; `None` exactly where the input is used up and all parts of it are told. A fault comes at
+    /// the first byte that differs from both magics, or at the last byte of a header; every later call answers the same
+    /// one, and takes nothing.
     pub fn next<'a>(&mut self, input: &mut &'a [u8]) -> Result<Option<TapePart<'a>>, TapeFault>
         ensures step { TapeTakes self.old self.new input.old.now input.new.now (tape_told result) }
+
         // Whatever was taken and told before.
         ensures stands { (bytes : List ℕ) (so_far : List RecordPart) → TapeStands self.old bytes so_far →
-            (taken : List ℕ) × (input.old.now ≡ taken ++ input.new.now) × TapeStands self.new (bytes ++ taken) (so_far ++ tape_told result) }
+            (taken : List ℕ) × (input.old.now ≡ taken ++ input.new.now)
+            × TapeStands self.new (bytes ++ taken) (so_far ++ tape_told result) }
         ensures fault { FaultStands self.new.place result }
-        ensures sticky { (f : TapeFault) → self.old.place ≡ place.Broken f → (result ≡ Err f) × (self.new ≡ self.old) × (input.new.now ≡ input.old.now) }
+        ensures sticky { (f : TapeFault) → self.old.place ≡ place.Broken f →
+            (result ≡ Err f) × (self.new ≡ self.old) × (input.new.now ≡ input.old.now) }
         ensures none { IsOver result ((input.new.now ≡ []) × (parts_from self.new [] ≡ [])) }
         ensures longest { IfOk result (TapeLongest self.old input.old.now) }
-        ensures some { IfOk result (λ p. (p ≡ None) ⊎ (told_of p ≢ [])) }
-        ensures progress { IfOk result (λ p. (p ≡ None) ⊎ (2 * length input.new.now + tape_owed self.new < 2 * length input.old.now + tape_owed self.old)) }
+        ensures some { IfOk result (λ part. (part ≡ None) ⊎ (told_of part ≢ [])) }
+
+        // A caller's loop ends by this.
+        ensures progress { IfOk result (λ part. (part ≡ None) ⊎ (2 * length input.new.now + tape_owed self.new <
+            2 * length input.old.now + tape_owed self.old)) }
     {
         match self.place {
             Place::Within(0) => {
@@ -128,9 +136,10 @@ impl Tape {
         ensures step { TapeTakes self.old self.new input.old.now input.new.now (tape_told result) }
         ensures fault { FaultStands self.new.place result }
         ensures none { IsOver result ((input.new.now ≡ []) × InHead self.new) }
-        ensures some { IfOk result (λ p. (p ≡ None) ⊎ (told_of p ≢ [])) }
+        ensures some { IfOk result (λ part. (part ≡ None) ⊎ (told_of part ≢ [])) }
         ensures begins { IfOk result (TapeLongest self.old input.old.now) }
-        ensures progress { IfOk result (λ p. (p ≡ None) ⊎ (2 * length input.new.now + tape_owed self.new < 2 * length input.old.now + tape_owed self.old)) }
+        ensures progress { IfOk result (λ part. (part ≡ None) ⊎ (2 * length input.new.now + tape_owed self.new <
+            2 * length input.old.now + tape_owed self.old)) }
     {
         'bytes: while let Some(byte) = take_byte(input) {
             match self.take(byte) {
@@ -216,8 +225,9 @@ impl Tape {
 
     /// Whether the bytes taken are no whole tape.
     pub fn partial(&self) -> bool
-        ensures state { result ≡ not (is_whole self.now) }
-        ensures whole { (bytes : List ℕ) (so_far : List RecordPart) → TapeStands self.now bytes so_far → result ≡ not (tape_whole bytes) }
+        ensures state { result ≡ not (is_whole (ending_at self.now)) }
+        ensures whole { (bytes : List ℕ) (so_far : List RecordPart) → TapeStands self.now bytes so_far →
+            result ≡ not (tape_whole bytes) }
     {
         match self.place {
             Place::Magic | Place::Broken(_) => true,
@@ -225,108 +235,4 @@ impl Tape {
             Place::Within(left) => left != 0,
         }
     }
-}
-
-/// What a header says.
-#[derive(Clone, Copy, Debug, PartialEq, Eq)]
-struct Header {
-    moment: u64,
-    track: u8,
-    len: u16,
-}
-
-#[inline(always)]
-fn fits_magic(at: usize, byte: u8) -> bool
-    ensures { result ≡ fits_magic at byte }
-{
-    match at {
-        0 => byte == 0x4d,
-        1 => byte == 0x42,
-        2 => byte == 0x54,
-        _ => byte == 0x31 || byte == 0x32,
-    }
-}
-
-#[inline(always)]
-fn header_size(second: bool) -> usize
-    ensures { result ≡ header_size second }
-{
-    if second { 11 } else { 10 }
-}
-
-/// What a whole header says.
-fn header_of(second: bool, bytes: &[u8]) -> Header
-    requires { length bytes.now ≡ header_size second }
-    ensures moment { result.moment ≡ (header_of second bytes.now).moment }
-    ensures track { result.track ≡ (header_of second bytes.now).track }
-    ensures len { result.len ≡ (header_of second bytes.now).len }
-{
-    let moment = eight(&bytes[..8]);
-    if second {
-        Header {
-            moment,
-            track: bytes[8],
-            len: two(&bytes[9..]),
-        }
-    } else {
-        Header {
-            moment,
-            track: 0,
-            len: two(&bytes[8..]),
-        }
-    }
-}
-
-/// A number of eight bytes.
-fn eight(bytes: &[u8]) -> u64
-    requires { length bytes.now ≡ 8 }
-    ensures { result ≡ number bytes.now }
-{
-    let high = four(&bytes[..4]);
-    let low = four(&bytes[4..]);
-    0x1_0000_0000 * u64::from(high) + u64::from(low)
-}
-
-fn four(bytes: &[u8]) -> u32
-    requires { length bytes.now ≡ 4 }
-    ensures { result ≡ number bytes.now }
-{
-    let high = two(&bytes[..2]);
-    let low = two(&bytes[2..]);
-    0x1_0000 * u32::from(high) + u32::from(low)
-}
-
-fn two(bytes: &[u8]) -> u16
-    requires { length bytes.now ≡ 2 }
-    ensures { result ≡ number bytes.now }
-{
-    256 * u16::from(bytes[0]) + u16::from(bytes[1])
-}
-
-/// What is wrong with a header behind a record of this moment.
-fn header_fault(second: bool, last: u64, header: Header) -> Option<TapeFault>
-    ensures fault { result ≡ header_fault second last (record { moment = header.moment; track = header.track; len = header.len }) }
-    ensures fits { second ≡ false → result ≡ None → header.moment ≤ most_milliseconds }
-{
-    if header.moment < last {
-        return Some(TapeFault::Back {
-            was: last,
-            now: header.moment,
-        });
-    }
-    if !second && header.moment > MOST_MILLISECONDS {
-        return Some(TapeFault::Far { now: header.moment });
-    }
-    if header.len == 0 {
-        return Some(TapeFault::Zero);
-    }
-    None
-}
-
-/// A moment of a tape in microseconds.
-fn microseconds(second: bool, moment: u64) -> u64
-    requires { second ≡ false → moment ≤ most_milliseconds }
-    ensures { result ≡ microseconds second moment }
-{
-    if second { moment } else { 1000 * moment }
 }
