@@ -1,6 +1,9 @@
 pub mod Counting
 pub mod Frames
+pub mod Gathered
+pub mod Gathering
 pub mod Kept
+pub mod Migrated
 pub mod Numbers
 pub mod Reading
 pub mod TapeReading

@@ -11,7 +11,7 @@ ghost use Rattle.mb_frames.specs.declared.tape.TapeFault.{TapeFault};
 ghost use Rattle.mb_frames.specs.declared.tape.Place.TheVariants as place;
 
 use crate::front::{take_byte, take_front};
-use crate::header::{Header, fits_magic, header_fault, header_of, header_size, microseconds};
+use crate::read_header::{Header, fits_magic, header_fault, header_of, header_size, microseconds};
 use arrayvec::ArrayVec;
 use std::marker::Model;
 

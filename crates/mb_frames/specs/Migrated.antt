@@ -1,0 +1,19 @@
+-- A tape in the second form: its magic once it stands whole, each whole header in the second form, each byte of a record
+-- as it is. A tape in the first form has its moments in milliseconds, and is of track 0. What isn't whole yet gives nothing,
+-- nor does what follows a fault.
+--
+--   tape2 bytes       the same tape in the second form
+use Rattle.std.specs.Prelude.{ℕ, Bool, true, ◌&&◌, nat_le, if◌then◌else◌, List, [], ◌∷◌, ◌++◌, length, take, flat_map}
+use Rattle.mb_frames.specs.Tapes.{RecordPart, RecordBegin, RecordByte, RecordEnd, fit_magic, magic, header, tape_parts}
+
+abbrev pub magic_is_whole : List ℕ → Bool
+magic_is_whole bytes = nat_le 4 (length bytes) && fit_magic 0 (take 4 bytes)
+
+-- a part of a record in the second form
+abbrev pub part_bytes : RecordPart → List ℕ
+part_bytes (RecordBegin moment track len) = header true moment track len
+part_bytes (RecordByte byte) = byte ∷ []
+part_bytes RecordEnd = []
+
+abbrev pub tape2 : List ℕ → List ℕ
+tape2 bytes = (if magic_is_whole bytes then magic true else []) ++ flat_map part_bytes (tape_parts bytes)
