@@ -23,7 +23,7 @@ pub record Reads (t : TapeState) (bytes : List ℕ) (read : TapeRead) : Type 0 w
   pub ending : ending_from t bytes ≡ read.ending
 
 -- behind a fault nothing is told
-broken_parts : (f : TapeFault) (t : TapeState) (bytes : List ℕ) → parts_from (record t { place = place.Broken f }) bytes ≡ []
+pub broken_parts : (f : TapeFault) (t : TapeState) (bytes : List ℕ) → parts_from (record t { place = place.Broken f }) bytes ≡ []
 broken_parts f t [] = refl
 broken_parts f t (b ∷ bs) = broken_parts f t bs
 

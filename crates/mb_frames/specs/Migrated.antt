@@ -2,9 +2,11 @@
 -- as it is. A tape in the first form has its moments in milliseconds, and is of track 0. What isn't whole yet gives nothing,
 -- nor does what follows a fault.
 --
---   tape2 bytes       the same tape in the second form
+--   tape2 bytes                          the same tape in the second form
+--   record_in_microseconds second r      a record of a tape of either form, as the second has it
 use Rattle.std.specs.Prelude.{ℕ, Bool, true, ◌&&◌, nat_le, if◌then◌else◌, List, [], ◌∷◌, ◌++◌, length, take, flat_map}
-use Rattle.mb_frames.specs.Tapes.{RecordPart, RecordBegin, RecordByte, RecordEnd, fit_magic, magic, header, tape_parts}
+use Rattle.mb_frames.specs.Tapes.{Record, RecordPart, RecordBegin, RecordByte, RecordEnd, fit_magic, magic, header}
+use Rattle.mb_frames.specs.Tapes.{microseconds, tape_parts}
 
 abbrev pub magic_is_whole : List ℕ → Bool
 magic_is_whole bytes = nat_le 4 (length bytes) && fit_magic 0 (take 4 bytes)
@@ -17,3 +19,6 @@ part_bytes RecordEnd = []
 
 abbrev pub tape2 : List ℕ → List ℕ
 tape2 bytes = (if magic_is_whole bytes then magic true else []) ++ flat_map part_bytes (tape_parts bytes)
+
+abbrev pub record_in_microseconds : (second : Bool) → Record → Record
+record_in_microseconds second r = record r { moment = microseconds second r.moment }

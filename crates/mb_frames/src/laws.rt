@@ -1,6 +1,6 @@
 //! Laws of the definitions. Each function does nothing; what is proved is its contract.
 
-ghost use Rattle.std.specs.Prelude.{◌≡◌, ℕ, Bool, List, [], ◌++◌, false, flat_map};
+ghost use Rattle.std.specs.Prelude.{◌≡◌, ℕ, Bool, List, [], ◌++◌, true, false, map, flat_map};
 ghost use Rattle.mb_frames.specs.Frames.{AreBytes, Cut, FramePart, IsUnfinished, frame, frame_parts, parts};
 ghost use Rattle.mb_frames.specs.Frames.{unfinished_parts};
 ghost use Rattle.mb_frames.specs.Counting.{counted_parts};
@@ -8,6 +8,7 @@ ghost use Rattle.mb_frames.specs.Reading.{IsWhole, Place, Stands, from, is_at_en
 ghost use Rattle.mb_frames.specs.Tapes.{AreRight, Record, RecordPart, Whole, record_parts, tape, tape_parts, tape_read};
 ghost use Rattle.mb_frames.specs.TapeSteps.{TapeState, behind_records, ending_from, fresh, parts_from};
 ghost use Rattle.mb_frames.specs.TapeReading.{TapeStands};
+ghost use Rattle.mb_frames.specs.Migrated.{record_in_microseconds, tape2};
 
 /// A list of bytes is frames, and a last one that is unfinished. Its parts are theirs.
 pub fn lists_are_frames()
@@ -66,4 +67,13 @@ pub fn any_tape_cutting()
         parts_from t [] ≡ [] → so_far ≡ tape_parts bytes }
     ensures ending { (bytes : List ℕ) (t : TapeState) (so_far : List RecordPart) → TapeStands t bytes so_far →
         (tape_read bytes).ending ≡ ending_from t [] }
+{}
+
+/// A tape in the second form tells what the tape that it was made of tells: the same records, with their moments in
+/// microseconds. Made once more it stays as it is.
+pub fn tapes_migrate()
+    ensures parts { (bytes : List ℕ) → AreBytes bytes → tape_parts (tape2 bytes) ≡ tape_parts bytes }
+    ensures twice { (bytes : List ℕ) → AreBytes bytes → tape2 (tape2 bytes) ≡ tape2 bytes }
+    ensures records { (second : Bool) (records : List Record) → AreRight second 0 records →
+        tape2 (tape second records) ≡ tape true (map (record_in_microseconds second) records) }
 {}
