@@ -25,6 +25,8 @@ mod outside;
 #[cfg(test)]
 mod print;
 #[cfg(test)]
+mod tapes;
+#[cfg(test)]
 mod text;
 #[cfg(test)]
 mod usb_reader;

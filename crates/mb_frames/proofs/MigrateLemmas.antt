@@ -45,9 +45,9 @@ unfolding most
 number-below [] n m a less = omega (arith, less)
 number-below (b ∷ bs) n m a less =
     let more : number_from (256 * n + b) bs < 256 * m * most (length bs) =
-        number-below bs (256 * n + b) (256 * m) a.1 (let small = a.0 in omega (arith, less, small)) in
+    number-below bs (256 * n + b) (256 * m) a.1 (let small = a.0 in omega (arith, less, small)) in
     let same : 256 * m * most (length bs) ≡ m * (256 * most (length bs)) =
-        ap (λ z. z * most (length bs)) (mul_comm 256 m) ∙ mul_assoc m 256 (most (length bs)) in
+    ap (λ z. z * most (length bs)) (mul_comm 256 m) ∙ mul_assoc m 256 (most (length bs)) in
     subst (λ (z : ℕ). number_from (256 * n + b) bs < z) same more
 
 number-fits : (count : ℕ) (bs : List ℕ) → AreBytes bs → length bs ≡ count → number bs < most count
@@ -161,7 +161,7 @@ same-broken : (f : TapeFault) (second : Bool) (last track : ℕ) (head bs : List
     parts_from (at (place.Broken f) second last track head) bs
 same-broken f second last track head bs =
     let none : parts_from (at (place.Broken f) second last track head) bs ≡ [] =
-        broken_parts f (at (place.Broken f) second last track head) bs in
+    broken_parts f (at (place.Broken f) second last track head) bs in
     ap (λ ps. parts_from (remade (place.Broken f) second last track) (again ps)) none ∙ sym none
 
 -- a whole header
@@ -175,8 +175,10 @@ same-headed second last track hs bs a is same =
   where
     source : TapeState
     source = at place.Header second last track []
+
     target : TapeState
     target = remade place.Header second last track
+
     by_fault : (h : Header) (f : Option TapeFault) → (h.moment < most 8) × (h.len < most 2) → (f ≡ None → Passes second last h) →
         let t : TapeState = begun source h f in
         parts_from target (again (begin_by t.place t ++ parts_from t bs)) ≡ begin_by t.place t ++ parts_from t bs
@@ -189,10 +191,10 @@ same-headed second last track hs bs a is same =
         let told : List RecordPart = parts_from (begun source h None) bs in
         let head : List ℕ = header true m h.track h.len in
         let read : header_of true head ≡ in_microseconds second h =
-            header_is true m h.track h.len (microseconds-fit second h.moment fits.0 p.near) fits.1 (λ e. absurd (true≢false e)) in
+        header_is true m h.track h.len (microseconds-fit second h.moment fits.0 p.near) fits.1 (λ e. absurd (true≢false e)) in
         let begins : headed target head ≡ begun target (in_microseconds second h) None =
-            ap (λ (x : Header). begun target x (header_fault true target.last x)) read ∙
-            ap (begun target (in_microseconds second h)) (no-fault-in-microseconds second last h fits.0 p) in
+        ap (λ (x : Header). begun target x (header_fault true target.last x)) read ∙
+        ap (begun target (in_microseconds second h)) (no-fault-in-microseconds second last h fits.0 p) in
         run_of target head (again told) (length-header true m h.track h.len) ∙
         (ap (λ (z : TapeState). begin_by z.place z ++ parts_from z (again told)) begins ∙
         ap (λ ps. RecordBegin m h.track h.len ∷ ps) (same (place.Within h.len) second h.moment h.track [] tt tt))
@@ -204,12 +206,15 @@ same-header second last track head b bs a small same = by_length (length (head +
   where
     source : TapeState
     source = at place.Header second last track []
+
     more : AreBytes (head ++ b ∷ [])
     more = bytes-append head (b ∷ []) a (small, tt)
+
     Goal : TapeState → Type 0
     Goal z =
         parts_from (remade place.Header second last track) (again (begin_by z.place z ++ parts_from z bs)) ≡
         begin_by z.place z ++ parts_from z bs
+
     by_length : (whole : Bool) → (length (head ++ b ∷ []) == header_size second) ≡ whole → Goal (behind (at_header source head) b)
     by_length true e =
         subst Goal (sym (behind_is source head b true e))
@@ -333,6 +338,7 @@ begins (m ∷ b ∷ t ∷ form ∷ more) a = by (fit_magic 0 (m ∷ b ∷ t ∷ 
   where
     bytes : List ℕ
     bytes = m ∷ b ∷ t ∷ form ∷ more
+
     by : (fits : Bool) → fit_magic 0 (m ∷ b ∷ t ∷ form ∷ []) ≡ fits → Begins bytes ⊎ Silent bytes
     by true fits =
         let w = which-magic m b t form fits in
@@ -344,23 +350,23 @@ begins (m ∷ b ∷ t ∷ form ∷ more) a = by (fit_magic 0 (m ∷ b ∷ t ∷ 
 pub told-again : (bytes : List ℕ) → AreBytes bytes → tape_parts (tape2 bytes) ≡ tape_parts bytes
 told-again bytes a = elim (begins bytes a) [
   | inl b ↦
-    let told : List RecordPart = parts_from (behind_form b.second) b.more in
-    ap (λ z. tape_parts (tape2 z)) b.is ∙
-    (ap tape_parts (remade-magic b.second b.more) ∙
-    (magic-told true (again told) ∙
-    (same-form b.second b.more b.bytes_are ∙
-    (sym (magic-told b.second b.more) ∙ ap tape_parts (sym b.is)))))
+      let told : List RecordPart = parts_from (behind_form b.second) b.more in
+      ap (λ z. tape_parts (tape2 z)) b.is ∙
+      (ap tape_parts (remade-magic b.second b.more) ∙
+      (magic-told true (again told) ∙
+      (same-form b.second b.more b.bytes_are ∙
+      (sym (magic-told b.second b.more) ∙ ap tape_parts (sym b.is)))))
   | inr s ↦ ap tape_parts s.remade ∙ sym s.parts
 ]
 
 pub made-twice : (bytes : List ℕ) → AreBytes bytes → tape2 (tape2 bytes) ≡ tape2 bytes
 made-twice bytes a = elim (begins bytes a) [
   | inl b ↦
-    let told : List RecordPart = parts_from (behind_form b.second) b.more in
-    let once : tape2 bytes ≡ magic true ++ again told = ap tape2 b.is ∙ remade-magic b.second b.more in
-    ap tape2 once ∙
-    (remade-magic true (again told) ∙
-    (ap (λ ps. magic true ++ again ps) (same-form b.second b.more b.bytes_are) ∙ sym once))
+      let told : List RecordPart = parts_from (behind_form b.second) b.more in
+      let once : tape2 bytes ≡ magic true ++ again told = ap tape2 b.is ∙ remade-magic b.second b.more in
+      ap tape2 once ∙
+      (remade-magic true (again told) ∙
+      (ap (λ ps. magic true ++ again ps) (same-form b.second b.more b.bytes_are) ∙ sym once))
   | inr s ↦ ap tape2 s.remade ∙ sym s.remade
 ]
 
@@ -384,9 +390,9 @@ pub records-again : (second : Bool) (rs : List Record) → AreRight second 0 rs 
 records-again second rs are =
     let bytes : List ℕ = flat_map (record_bytes second) rs in
     let told : parts_from (behind_form second) bytes ≡ flat_map (record_parts second) rs =
-        ap (parts_from (behind_form second)) (sym (append-nil bytes)) ∙
-        (records_parts (behind_form second) rs [] are ∙
-        (ap (λ ps. flat_map (record_parts second) rs ++ ps) (none-behind (behind_form second) rs) ∙
-        append-nil (flat_map (record_parts second) rs))) in
+    ap (parts_from (behind_form second)) (sym (append-nil bytes)) ∙
+    (records_parts (behind_form second) rs [] are ∙
+    (ap (λ ps. flat_map (record_parts second) rs ++ ps) (none-behind (behind_form second) rs) ∙
+    append-nil (flat_map (record_parts second) rs))) in
     remade-magic second bytes ∙
     ap (λ z. magic true ++ z) (ap again told ∙ again-records second rs)

@@ -51,11 +51,10 @@ header_short t head [] short = (refl, ap (at_header t) (sym (append-nil head)))
 header_short t head (b ∷ bs) short =
     let n = length-append head (b ∷ []) in
     let part : (length (head ++ b ∷ []) == header_size t.second) ≡ false = grind (arith, nat_tests) in
-    let rest = header_short t (head ++ b ∷ []) bs (omega (arith, short, n)) in
-    (
+    let rest = header_short t (head ++ b ∷ []) bs (omega (arith, short, n)) in (
       ap (λ (z : TapeState). begin_by z.place z ++ parts_from z bs) (behind_is t head b false part) ∙ rest.0,
       ap (λ (z : TapeState). after z bs) (behind_is t head b false part) ∙
-      (rest.1 ∙ ap (at_header t) (append_assoc head (b ∷ []) bs)),
+          (rest.1 ∙ ap (at_header t) (append_assoc head (b ∷ []) bs)),
     )
 
 short-reads : (t : TapeState) (b : ℕ) (bs : List ℕ) → length (b ∷ bs) < header_size t.second →
@@ -75,8 +74,7 @@ within_short zero t bytes short = absurd (omega (arith, short))
 within_short (suc left) t [] short = (refl, ap end_by_test (not-zero left))
 within_short (suc left) t (b ∷ bs) short =
     let one : suc left - 1 ≡ left = omega arith in
-    let rest = within_short left t bs (omega (arith, short)) in
-    (
+    let rest = within_short left t bs (omega (arith, short)) in (
       ap (λ n. RecordByte b ∷ parts_from (inside t n) bs) one ∙ ap (λ z. RecordByte b ∷ z) rest.0,
       ap (λ n. ending_from (inside t n) bs) one ∙ rest.1,
     )
@@ -91,6 +89,7 @@ content-reads t len bytes others rest = by_length (nat_lt (length bytes) len) re
     read_by short =
         if short then behind_parts (map RecordByte bytes) (nothing Inside)
         else behind_parts (map RecordByte (take len bytes) ++ RecordEnd ∷ []) others
+
     by_length : (short : Bool) → nat_lt (length bytes) len ≡ short → Reads (inside t len) bytes (read_by short)
     by_length true e =
         let cut = within_short len t bytes (grind (arith, nat_tests)) in
@@ -128,9 +127,11 @@ record-reads t head bytes others is rest =
         parts_from (at_header t []) (head ++ bytes) ≡
         begin_by (begun (at_header t []) h f).place (begun (at_header t []) h f) ++ parts_from (begun (at_header t []) h f) bytes
     run f h e = run_of t head bytes is ∙ ap (λ (z : TapeState). begin_by z.place z ++ parts_from z bytes) e
+
     end : (f : Option TapeFault) (h : Header) → headed t head ≡ begun (at_header t []) h f →
         ending_from (at_header t []) (head ++ bytes) ≡ ending_from (begun (at_header t []) h f) bytes
     end f h e = ap ending_at (after_of t head bytes is) ∙ ap (λ (z : TapeState). ending_from z bytes) e
+
     by_fault : (h : Header) (f : Option TapeFault) → headed t head ≡ begun (at_header t []) h f →
         Reads (behind_header t h) (drop h.len bytes) others → Reads (at_header t []) (head ++ bytes) (record_read t.second f h bytes others)
     by_fault h (Some f) e rest =
@@ -157,29 +158,35 @@ records-reads (suc most) second last track (b ∷ bs) few =
   where
     size : ℕ
     size = header_size second
+
     h : Header
     h = header_of second (take size (b ∷ bs))
+
     behind_it : List ℕ
     behind_it = drop size (b ∷ bs)
+
     read_by : Bool → TapeRead
     read_by short =
         if short then nothing Inside
         else record_read second (header_fault second last h) h behind_it (records_read most second h.moment (drop h.len behind_it))
+
     at_least : (second : Bool) → 1 ≤ header_size second
     at_least true = omega arith
     at_least false = omega arith
+
     Others : Type 0
     Others =
         length (drop h.len behind_it) ≤ most →
         Reads (between second h.moment h.track) (drop h.len behind_it) (records_read most second h.moment (drop h.len behind_it))
+
     by_length : (short : Bool) → nat_lt (length (b ∷ bs)) size ≡ short → Others →
         Reads (between second last track) (b ∷ bs) (read_by short)
     by_length true e others = short-reads (between second last track) b bs (grind (arith, nat_tests))
     by_length false e others =
         let enough : size ≤ length (b ∷ bs) = grind (arith, nat_tests) in
         let fewer : length (drop h.len behind_it) ≤ most =
-            let n = length-drop h.len behind_it in let m = length-drop size (b ∷ bs) in let l = at_least second in
-            omega (arith, few, n, m, l) in
+        let n = length-drop h.len behind_it in let m = length-drop size (b ∷ bs) in let l = at_least second in
+        omega (arith, few, n, m, l) in
         subst (λ (z : List ℕ). Reads (between second last track) z (read_by false)) (take-append-drop size (b ∷ bs))
         (record-reads (between second last track) (take size (b ∷ bs)) behind_it
         (records_read most second h.moment (drop h.len behind_it)) (length-take-le size (b ∷ bs) enough)

@@ -44,7 +44,7 @@ begun t h None = record t { place = place.Within h.len; head = []; last = h.mome
 abbrev pub behind_head : TapeState → List ℕ → TapeState
 behind_head t head =
     if length head == header_size t.second then
-        begun t (header_of t.second head) (header_fault t.second t.last (header_of t.second head))
+    begun t (header_of t.second head) (header_fault t.second t.last (header_of t.second head))
     else record t { head = head }
 
 abbrev pub behind_by : Place → TapeState → (byte : ℕ) → TapeState

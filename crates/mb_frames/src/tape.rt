@@ -1,12 +1,12 @@
 //! Reading a tape from pieces.
 
-ghost use Rattle.std.specs.Prelude.{◌≡◌, ◌≢◌, ◌⊎◌, ℕ, ◌+◌, ◌*◌, ◌<◌, ◌≤◌, not, List, [], ◌∷◌, ◌++◌, length, false};
+ghost use Rattle.std.specs.Prelude.{◌≡◌, ◌≢◌, ℕ, ◌+◌, ◌*◌, ◌<◌, ◌≤◌, not, List, [], ◌∷◌, ◌++◌, length, false};
 ghost use Rattle.std.specs.Prelude.{IfOk, Err};
 ghost use Rattle.mb_frames.specs.Tapes.{RecordPart, is_whole, tape_whole};
 ghost use Rattle.mb_frames.specs.TapeSteps.{begin_by, behind, behind_head, behind_magic, ending_at, fresh, parts_at};
 ghost use Rattle.mb_frames.specs.TapeSteps.{parts_from};
 ghost use Rattle.mb_frames.specs.TapeReading.{BeginsOnly, InHead, FaultStands, IsOver, TapeLongest, TapeStands};
-ghost use Rattle.mb_frames.specs.TapeReading.{TapeTakes, tape_owed, tape_told, told_of};
+ghost use Rattle.mb_frames.specs.TapeReading.{IfTold, TapeTakes, tape_owed, tape_told};
 ghost use Rattle.mb_frames.specs.declared.tape.TapeFault.{TapeFault};
 ghost use Rattle.mb_frames.specs.declared.tape.Place.TheVariants as place;
 
@@ -70,8 +70,13 @@ impl Model for Tape {
 
     ghost Value = { TapeState };
 
-    ghost view = { λ t. record { place = t.place; head = t.head.items; second = t.second; last = t.last;
-        track = t.track } };
+    ghost view = { λ t. record {
+      place = t.place;
+      head = t.head.items;
+      second = t.second;
+      last = t.last;
+      track = t.track;
+    } };
 
     ghost invariant = { λ t. HeadFits t.place t.second (length t.head.items) };
 }
@@ -107,11 +112,11 @@ impl Tape {
             (result ≡ Err f) × (self.new ≡ self.old) × (input.new.now ≡ input.old.now) }
         ensures none { IsOver result ((input.new.now ≡ []) × (parts_from self.new [] ≡ [])) }
         ensures longest { IfOk result (TapeLongest self.old input.old.now) }
-        ensures some { IfOk result (λ part. (part ≡ None) ⊎ (told_of part ≢ [])) }
+        ensures some { IfTold result (tape_told result ≢ []) }
 
         // A caller's loop ends by this.
-        ensures progress { IfOk result (λ part. (part ≡ None) ⊎ (2 * length input.new.now + tape_owed self.new <
-            2 * length input.old.now + tape_owed self.old)) }
+        ensures progress { IfTold result (2 * length input.new.now + tape_owed self.new <
+            2 * length input.old.now + tape_owed self.old) }
     {
         match self.place {
             Place::Within(0) => {
@@ -136,10 +141,10 @@ impl Tape {
         ensures step { TapeTakes self.old self.new input.old.now input.new.now (tape_told result) }
         ensures fault { FaultStands self.new.place result }
         ensures none { IsOver result ((input.new.now ≡ []) × InHead self.new) }
-        ensures some { IfOk result (λ part. (part ≡ None) ⊎ (told_of part ≢ [])) }
+        ensures some { IfTold result (tape_told result ≢ []) }
         ensures begins { IfOk result (TapeLongest self.old input.old.now) }
-        ensures progress { IfOk result (λ part. (part ≡ None) ⊎ (2 * length input.new.now + tape_owed self.new <
-            2 * length input.old.now + tape_owed self.old)) }
+        ensures progress { IfTold result (2 * length input.new.now + tape_owed self.new <
+            2 * length input.old.now + tape_owed self.old) }
     {
         'bytes: while let Some(byte) = take_byte(input) {
             match self.take(byte) {
