@@ -1,0 +1,218 @@
+-- A reader of packets that has taken these bytes and told this.
+use Rattle.std.specs.Prelude.{◌≡◌, ℕ, ◌+◌, ◌-◌, ◌*◌, ◌<◌, ◌≤◌, ◌⊎◌, Bool, true, false, if◌then◌else◌, List, [], ◌∷◌, ◌++◌, map, length, Option, Some, None, IfSome}
+use Rattle.mb_din.specs.Reader.{Stands}
+use Rattle.mb_message.specs.declared.event.Seen.{Seen}
+use Rattle.mb_din.specs.State.{State, owed}
+use Rattle.mb_message.specs.Front.{IsFront}
+use Rattle.mb_stream.specs.ReaderLaw.{StatusNext, answer}
+use Rattle.mb_frames.specs.Reading.{from, Place, Between, High, Within}
+use Rattle.mb_message.specs.Bytes.{is_channel}
+use Rattle.mb_stream.specs.Groups.{is_sysex, last_of}
+use Rattle.mb_stream.specs.Payload.{Entry}
+use Rattle.mb_stream.specs.Reading.{Part, part_of, so_far}
+use Rattle.mb_stream.specs.Told.{Told, Known, may_run}
+use Rattle.mb_message.specs.declared.note.NoteKind.TheVariants.{LoneStamp}
+use Rattle.mb_frames.specs.Counting.{rest_parts}
+use Rattle.mb_ble.specs.Packets.{Token, Begins, Skipped, Stamp, Ends, byte_token, tokens, clock, running, is_full, payload, all_tokens}
+use Rattle.mb_ble.specs.Reading.{lone, noted, ble_known, onto, whole_from, ble_whole}
+use Rattle.mb_ble.specs.News.{news_from}
+use Rattle.mb_ble.specs.declared.content.Content.{Content}
+use Rattle.mb_ble.specs.declared.content.Head.{Head}
+use Rattle.mb_ble.specs.declared.content.Head.TheVariants as head
+use Rattle.mb_ble.specs.declared.reader.BleReader.{BleReader}
+use Rattle.mb_ble.specs.declared.reader.BleStep.{BleStep}
+
+-- so many bytes of a content were taken
+abbrev pub passed : Place → ℕ → Place
+passed Between n = Between
+passed (High high) n = High high
+passed (Within left) n = Within (left - n)
+
+-- what follows a place ends no frame early
+abbrev pub whole_at : Place → List ℕ → Bool
+whole_at Between bytes = whole_from 0 bytes
+whole_at (High high) bytes = whole_from 0 (high ∷ bytes)
+whole_at (Within left) bytes = whole_from left bytes
+
+-- the next byte is a header, or no message is read at it
+abbrev pub is_heady : Head → Bool
+is_heady head.Between = true
+is_heady head.Header = true
+is_heady head.Skip = true
+is_heady head.Inside = false
+is_heady (head.Stamped at) = false
+is_heady head.Spent = false
+
+abbrev pub is_between : Head → Bool
+is_between head.Between = true
+is_between head.Header = false
+is_between head.Skip = false
+is_between head.Inside = false
+is_between (head.Stamped at) = false
+is_between head.Spent = false
+
+-- a token behind which a byte is what it is here
+abbrev pub behind : Head → Token
+behind head.Between = Ends 0
+behind head.Header = Begins 0 0
+behind head.Skip = Skipped
+behind head.Inside = Ends 0
+behind (head.Stamped at) = Stamp at 0
+behind head.Spent = Stamp 0 0
+
+abbrev pub last : List Token → Token
+last [] = Ends 0
+last (t ∷ before) = t
+
+-- A stamp that stands right before, and its note, where that was told: before a data byte or at the packet's end.
+abbrev pub NoStamp : List Token → List Known → Type 0
+NoStamp before told = (told ≡ []) × ((low : Bool) (rank known_at : ℕ) → lone low rank known_at before ≡ [])
+
+abbrev pub StampIs : Head → (offset : ℕ) → List Token → List Known → Type 0
+StampIs (head.Stamped at) offset before told = (told ≡ []) × ((low : Bool) (rank known_at : ℕ) → lone low rank known_at before ≡ (if low then [] else noted rank (clock before).moment known_at at LoneStamp ∷ []))
+StampIs head.Spent offset before told = (at : ℕ) × ((told ≡ noted 0 (clock before).moment offset at LoneStamp ∷ []) ⊎ ((told ≡ noted 5 (clock before).moment (offset - 1) at LoneStamp ∷ []) × (0 < offset)))
+    × ((low : Bool) (rank known_at : ℕ) → lone low rank known_at before ≡ (if low then [] else noted rank (clock before).moment known_at at LoneStamp ∷ []))
+StampIs head.Between offset before told = NoStamp before told
+StampIs head.Header offset before told = NoStamp before told
+StampIs head.Skip offset before told = NoStamp before told
+StampIs head.Inside offset before told = NoStamp before told
+
+-- what the next byte made known of earlier bytes
+abbrev pub Early : ℕ → Known → Type 0
+Early offset k = (k.at ≡ offset) × (0 < k.rank) × (k.rank < 3)
+
+abbrev pub AreEarly : ℕ → List Known → Type 0
+AreEarly offset [] = Unit {0}
+AreEarly offset (k ∷ ks) = Early offset k × AreEarly offset ks
+
+-- The content's reader stands for these tokens, of which all is told, and for this that the next byte or the packet's end made known.
+pub record Holds (now : Content) (before : List Token) (told : List Known) : Type 0 where
+  pub clock_is : now.clock ≡ clock before
+  pub running_is : now.running ≡ running before
+  pub runs : (s : ℕ) → running before ≡ Some s → (is_channel s ≡ true) × (is_full (last_of (payload before)) ≡ false)
+  pub kind : (at b : ℕ) → byte_token at (last before) b ≡ byte_token at (behind now.head) b
+  pub stamp : List Known
+  pub early : List Known
+  pub told_is : told ≡ stamp ++ early
+  pub stamp_is : StampIs now.head now.offset before stamp
+  pub din : Stands now.din (payload before) (so_far (payload before) ++ early)
+  pub are_early : AreEarly now.offset early
+  pub here : (early ≡ []) ⊎ (now.din.offset ≡ now.offset)
+  pub low : now.din.offset ≤ now.offset
+  pub rested : is_heady now.head ≡ true → early ≡ []
+
+-- A reader of a content read the front of its input: whatever it stood for, and whatever follows in the packet and behind it.
+pub record Read (was now : Content) (input left : List ℕ) (seen : List Told) (before : List Token) (told : List Known) (room : ℕ) (following : List ℕ) : Type 0 where
+  pub new : List Token
+  pub taken : List ℕ
+  pub front : input ≡ taken ++ left
+  pub parts : (more : List ℕ) → tokens was.offset (last before) (rest_parts room (taken ++ more)) ≡ new ++ tokens now.offset (last (onto before new)) (rest_parts (room - length taken) more)
+  pub ahead : List Known
+  pub holds : Holds now (onto before new) ahead
+  pub fresh : List Known
+  pub seen_is : map part_of fresh ≡ map (λ t. record { moment = now.clock.moment; told = t }) seen
+  pub told_is : told ++ fresh ≡ news_from before new ++ ahead
+  pub still : IsFront ahead (news_from (onto before new) (tokens now.offset (last (onto before new)) (rest_parts (room - length taken) (left ++ following))))
+
+pub record Reads (was now : Content) (input left : List ℕ) (seen : List Told) : Type 0 where
+  pub reads : (before : List Token) (told : List Known) (room : ℕ) (following : List ℕ) → Holds was before told → length input ≤ room →
+      IsFront told (news_from before (tokens was.offset (last before) (rest_parts room (input ++ following)))) → Read was now input left seen before told room following
+
+-- what a call may know of a reader without a recording: where the reader of groups stands, what runs, and how late it is
+abbrev pub slack : Head → ℕ
+slack head.Between = 2
+slack head.Header = 1
+slack head.Skip = 1
+slack head.Inside = 1
+slack (head.Stamped at) = 2
+slack head.Spent = 2
+
+pub record Calm (now : Content) : Type 0 where
+  pub low : now.din.offset ≤ now.offset
+  pub runs : IfSome now.running (λ s. is_channel s ≡ true)
+  pub moment : 2 * now.clock.moment ≤ 8191 * (now.offset + slack now.head)
+
+pub record Counts (was now : Content) (input left : List ℕ) : Type 0 where
+  pub taken : List ℕ
+  pub front : input ≡ taken ++ left
+  pub offset : now.offset ≡ was.offset + length taken
+  pub calm : Calm was → Calm now
+  pub inside : is_between was.head ≡ false → is_between now.head ≡ false
+
+-- what may be told before a byte is taken: of a stamp, and of what is begun or open
+abbrev pub stamp_owed : Head → ℕ
+stamp_owed head.Between = 0
+stamp_owed head.Header = 0
+stamp_owed head.Skip = 0
+stamp_owed head.Inside = 0
+stamp_owed (head.Stamped at) = 1
+stamp_owed head.Spent = 0
+
+abbrev pub content_owed : Content → ℕ
+content_owed now = owed now.din + stamp_owed now.head
+
+abbrev pub reader_owed : BleReader → ℕ
+reader_owed now = content_owed now.content
+
+-- what the reader of groups knows of its groups where all is told
+abbrev pub MayRun : State → Bool → Type 0
+MayRun s b = (entries : List Entry) → Stands s entries (so_far entries) → may_run (last_of entries) ≡ b
+
+abbrev pub HasOpen : State → Bool → Type 0
+HasOpen s b = (entries : List Entry) → Stands s entries (so_far entries) → is_sysex (last_of entries) ≡ b
+
+-- between packets exactly where the frames are
+abbrev pub Linked : Place → Content → Type 0
+Linked Between c = is_between c.head ≡ true
+Linked (High high) c = is_between c.head ≡ true
+Linked (Within left) c = (is_between c.head ≡ false) × (0 < c.offset)
+
+pub record Fit (now : BleReader) : Type 0 where
+  pub calm : Calm now.content
+  pub linked : Linked now.frames now.content
+
+-- the first byte of a length was taken, and its packet isn't begun
+abbrev pub half : Place → ℕ
+half Between = 0
+half (High high) = 1
+half (Within left) = 0
+
+-- the offset of the next byte
+abbrev pub offset_of : BleReader → ℕ
+offset_of now = now.content.offset + half now.frames
+
+-- The reader has taken these bytes and told this: all that their tokens tell, and perhaps what the next byte or the packet's end made known.
+pub record BleStands (now : BleReader) (bytes : List ℕ) (told : List Known) : Type 0 where
+  pub taken : List Token
+  pub before : List Token
+  pub before_is : before ≡ onto [] taken
+  pub tokens_are : (more : List ℕ) → all_tokens (bytes ++ more) ≡ taken ++ tokens now.content.offset (last before) (from now.frames more)
+  pub ahead : List Known
+  pub told_is : told ≡ news_from [] taken ++ ahead
+  pub holds : Holds now.content before ahead
+  pub offset : offset_of now ≡ length bytes
+  pub whole_is : (more : List ℕ) → ble_whole (bytes ++ more) ≡ whole_at now.frames more
+
+pub record BleGoes (now : BleReader) (input left : List ℕ) (seen : List Part) (bytes : List ℕ) (told : List Known) : Type 0 where
+  pub taken : List ℕ
+  pub front : input ≡ taken ++ left
+  pub fresh : List Known
+  pub seen_is : map part_of fresh ≡ seen
+  pub stands : BleStands now (bytes ++ taken) (told ++ fresh)
+  pub still : IsFront (told ++ fresh) (ble_known (bytes ++ input))
+
+-- whatever was taken and told before, as long as what was told is a front of what is known of it with the input
+pub record BleTells (was now : BleReader) (input left : List ℕ) (seen : List Part) : Type 0 where
+  pub goes : (bytes : List ℕ) (told : List Known) → BleStands was bytes told → IsFront told (ble_known (bytes ++ input)) → BleGoes now input left seen bytes told
+
+abbrev pub ble_answer : Option BleStep → List Part
+ble_answer None = []
+ble_answer (Some s) = map (λ t. record { moment = s.moment; told = t }) (answer (Some s.seen))
+
+abbrev pub seen_of : Option BleStep → Option Seen
+seen_of None = None
+seen_of (Some s) = Some s.seen
+
+-- what was broken: a status breaks it, which still stands in the input, or the packet's end
+abbrev pub BrokenNext : BleReader → List ℕ → Type 0
+BrokenNext now left = StatusNext left ⊎ (now.frames ≡ Between)
