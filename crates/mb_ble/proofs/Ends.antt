@@ -15,18 +15,18 @@ use Rattle.mb_stream.specs.Groups.{Group, is_sysex, last_of}
 use Rattle.mb_stream.specs.Payload.{Entry}
 use Rattle.mb_stream.specs.Reading.{Part, part_of, so_far}
 use Rattle.mb_stream.specs.Told.{Told, Marks, Notes, Known, begun_at, at_end}
-use Rattle.mb_ble.specs.Stands.{slack}
+use Rattle.mb_ble.specs.State.{slack, is_between, Linked, Fit, half}
 use Rattle.mb_message.specs.Front.{IsFront}
 use Rattle.mb_frames.specs.Counting.{counted_parts, rest_parts}
 use Rattle.mb_ble.specs.Packets.{Token, Begins, Header, Unheaded, Skipped, Stamp, Status, Data, Ends, byte_token, tokens, clock, payload, all_tokens}
 use Rattle.mb_ble.specs.Reading.{Cut, lone, noted, onto, cut_at, cut_told, unit_note, ble_known, ble_end, last_tokens}
 use Rattle.mb_ble.specs.News.{byte_news, token_news, news_from}
 use Rattle.mb_ble.specs.Content.{EndedBy}
-use Rattle.mb_ble.specs.Stands.{is_between, behind, last, StampIs, Holds, Linked, Fit, half, whole_at, BleStands, BleTells}
+use Rattle.mb_ble.specs.Stands.{behind, last, StampIs, Holds, whole_at, BleStands, BleTells}
 use Rattle.mb_ble.specs.declared.content.Content.{Content}
 use Rattle.mb_ble.specs.declared.content.Head.{Head}
 use Rattle.mb_ble.specs.declared.content.Head.TheVariants as head
-use Rattle.mb_ble.specs.declared.reader.BleReader.{BleReader}
+use Rattle.mb_ble.specs.declared.position.Position.{Position}
 use Rattle.mb_ble.proofs.Ordered.{Aboves-lower}
 use Rattle.mb_ble.proofs.Law.{rise-rest}
 use Rattle.mb_ble.proofs.Fronts.{news-above, Not, above-not, none-early, front-off}
@@ -136,11 +136,11 @@ at-end was before ahead holds rest inside nots front = by was.head refl inside h
 end-tokens : (f : Place) (o : ℕ) (l : Token) (bytes : List ℕ) → f ≡ Within 0 → tokens o l (from f bytes) ≡ Ends (o - 1) ∷ tokens o (Ends (o - 1)) (counted_parts bytes)
 end-tokens f o l bytes e = ap (λ q. tokens o l (from q bytes)) e ∙ ap (tokens o l) (rest_parts-zero bytes)
 
-linked-inside : (was : BleReader) → was.frames ≡ Within 0 → Fit was → (is_between was.content.head ≡ false) × (0 < was.content.offset)
+linked-inside : (was : Position) → was.frames ≡ Within 0 → Fit was → (is_between was.content.head ≡ false) × (0 < was.content.offset)
 linked-inside was e fit = subst (λ q. Linked q was.content) e fit.linked
 
 -- a stamp's note at the end
-pub end_stamp_tells : (was now : BleReader) (input : List ℕ) (at moment : ℕ) (seen : List Part) → Fit was → is_at_end was.frames ≡ true → was.content.head ≡ head.Stamped at → now.content ≡ (let c : Content = was.content in record c { head = head.Spent }) → now.frames ≡ was.frames →
+pub end_stamp_tells : (was now : Position) (input : List ℕ) (at moment : ℕ) (seen : List Part) → Fit was → is_at_end was.frames ≡ true → was.content.head ≡ head.Stamped at → now.content ≡ (let c : Content = was.content in record c { head = head.Spent }) → now.frames ≡ was.frames →
     moment ≡ was.content.clock.moment → seen ≡ record { moment = moment; told = Notes at LoneStamp } ∷ [] → BleTells was now input input seen
 end_stamp_tells was now input at moment seen fit e h same frames mom told = tells-step was now input input seen (λ before ahead holds front. by before ahead holds front)
   where
@@ -204,7 +204,7 @@ truncated-same g moment m a e o = by (begun_at g) (is_sysex g) o
     by (Some at) false n = ap (λ k. record { moment = k; told = Notes at Truncated } ∷ []) (sym e)
 
 -- the end itself
-pub end_groups_tells : (was now : BleReader) (input : List ℕ) (moment : ℕ) (seen : List Told) → Fit was → is_at_end was.frames ≡ true → ((at : ℕ) → was.content.head ≡ head.Stamped at → ⊥) → EndedBy was.content now.content seen → now.frames ≡ Between →
+pub end_groups_tells : (was now : Position) (input : List ℕ) (moment : ℕ) (seen : List Told) → Fit was → is_at_end was.frames ≡ true → ((at : ℕ) → was.content.head ≡ head.Stamped at → ⊥) → EndedBy was.content now.content seen → now.frames ≡ Between →
     moment ≡ was.content.clock.moment → BleTells was now input input (map (λ t. record { moment = moment; told = t }) seen)
 end_groups_tells was now input moment seen fit e no_stamp ended frames mom = tells-step was now input input (map (λ t. record { moment = moment; told = t }) seen) (λ before ahead holds front. by before ahead holds front)
   where
@@ -345,7 +345,7 @@ end-same before a moment e = by (is_sysex (last_of (payload before))) refl e
             cons_nil : (x : Known) (xs : List Known) → x ∷ xs ≡ [] → ⊥
             cons_nil x xs e = cc
 
-pub finish_tells : (was : BleReader) (moment : ℕ) (seen : List Told) (result : List Part) → Fit was → moment ≡ was.content.clock.moment → ((entries : List Entry) → Stands was.content.din entries (so_far entries) → seen ≡ at_end (last_of entries)) → result ≡ map (λ t. record { moment = moment; told = t }) seen →
+pub finish_tells : (was : Position) (moment : ℕ) (seen : List Told) (result : List Part) → Fit was → moment ≡ was.content.clock.moment → ((entries : List Entry) → Stands was.content.din entries (so_far entries) → seen ≡ at_end (last_of entries)) → result ≡ map (λ t. record { moment = moment; told = t }) seen →
     (bytes : List ℕ) → BleStands was bytes (ble_known bytes) → result ≡ ble_end bytes
 finish_tells was moment seen result fit mom told is bytes st = is ∙ by was.frames refl fit.linked
   where
@@ -385,7 +385,7 @@ finish_tells was moment seen result fit mom told is bytes st = is ∙ by was.fra
         let last_is : last_tokens bytes ≡ t ∷ b = ap (onto []) (toks ∙ ap (λ z. st.taken ++ z) one) ∙ onto-append st.taken (t ∷ []) [] ∙ ap (λ z. t ∷ z) (sym st.before_is) in
         seen_now n.0 ∙ end-same b (o - 1) (clock b).moment n.1 ∙ ap (λ z. finished (clock z).moment (payload z)) (sym last_is)
 
-pub finish_fit : (was : BleReader) (c : Content) → c ≡ (let k : Content = was.content in record k { running = None; din = c.din }) → c.din.offset ≡ was.content.din.offset → Fit was → Fit (record { frames = was.frames; content = c })
+pub finish_fit : (was : Position) (c : Content) → c ≡ (let k : Content = was.content in record k { running = None; din = c.din }) → c.din.offset ≡ was.content.din.offset → Fit was → Fit (record { frames = was.frames; content = c })
 finish_fit was c is low fit = record {
   calm = record {
     low = omega (arith, fit.calm.low, low, ap (λ k. k.offset) is);

@@ -10,7 +10,7 @@ use Rattle.mb_stream.specs.Puts.{Put, At, Flush, puts_at}
 use Rattle.mb_stream.specs.Spelling.{data_of}
 use Rattle.mb_ble.specs.Written.{Spelled, in_front, runs, is_left_out, spelling, spelling_at, content, ends, packets_from, packets, packet_bytes, ended, but_last, live_of, ble_written, ble_live}
 use Rattle.mb_ble.specs.Running.{flushed, given_at, under_way_at, live_from, under_way_from, live, under_way}
-use Rattle.mb_ble.specs.Writer.{Packet, nothing, packet_of, Holds, ends_in, flushed_in, added, is_abort, after_mark, given_in, spelled_at, after_all, given_all}
+use Rattle.mb_ble.specs.UnderWay.{Packet, nothing, packet_of, Holds, ends_in, flushed_in, added, is_abort, after_mark, given_in, spelled_at, after_all, given_all}
 
 abbrev NoAbort : List Spelled → Type 0
 NoAbort before = AllByRecursion (λ (x : Spelled). is_abort x.mark ≡ false) before

@@ -23,7 +23,7 @@ use Rattle.mb_ble.specs.Packets.{Token, Data, tokens, clock, payload, spot}
 use Rattle.mb_ble.specs.Reading.{lone}
 use Rattle.mb_ble.specs.News.{token_news, news_from}
 use Rattle.mb_ble.specs.Content.{Hands, advanced}
-use Rattle.mb_ble.specs.Stands.{is_heady, last, Holds, Read, Reads, MayRun, HasOpen, stamp_owed, content_owed}
+use Rattle.mb_ble.specs.Stands.{is_heady, last, Holds, Read, Reads, MayRun, HasOpen}
 use Rattle.mb_ble.specs.declared.content.Content.{Content}
 use Rattle.mb_ble.specs.declared.content.Head.TheVariants as head
 use Rattle.mb_ble.proofs.Fronts.{Not, none-early, data-not, front-off}
@@ -33,6 +33,7 @@ use Rattle.mb_ble.proofs.Whole.{take-drop, drop-front, length-take, length-appen
 use Rattle.mb_ble.proofs.Sysex.{Low, low-data, low-front, low-back, heard-from, RunDined, run_dined, run_taken}
 use Rattle.mb_message.specs.Front.{IsFront}
 use Rattle.mb_frames.specs.Counting.{rest_parts}
+use Rattle.mb_ble.specs.State.{stamp_owed, content_owed}
 
 abbrev stepped : Content → ℕ → Content
 stepped c k = record c { offset = c.offset + k; head = head.Inside }

@@ -6,7 +6,7 @@ use Rattle.std.proofs.lemmas.Bool.Decides.{nat_tests}
 use Rattle.mb_stream.specs.Puts.{Put, At, Flush}
 use Rattle.mb_ble.specs.Written.{Spelled, spelling, content, header, ends, is_far, falls, has_fallen, last_stamp, stamp, ble_live, ble_written}
 use Rattle.mb_ble.specs.Running.{flushed, given_at, under_way_at, live, under_way}
-use Rattle.mb_ble.specs.Writer.{is_abort}
+use Rattle.mb_ble.specs.UnderWay.{is_abort}
 use Rattle.mb_ble.specs.HeldBack.{IsOnePacket, HeldBack}
 use Rattle.mb_ble.proofs.WriterLemmas.{short_spelling}
 use Rattle.mb_ble.proofs.Live.{live-push, under_way-push, at_abort, at_spelled, live_law, written_law}

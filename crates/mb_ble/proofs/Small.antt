@@ -16,13 +16,14 @@ use Rattle.mb_ble.specs.Packets.{Token, Header, Unheaded, Skipped, Stamp, Status
 use Rattle.mb_ble.specs.Reading.{lone, noted}
 use Rattle.mb_ble.specs.News.{token_news, news_from}
 use Rattle.mb_ble.specs.Content.{headed_by, headed, headed_told_by, headed_told, stamped_at}
-use Rattle.mb_ble.specs.Stands.{is_heady, is_between, behind, last, NoStamp, StampIs, Holds, Read, Reads}
+use Rattle.mb_ble.specs.Stands.{is_heady, behind, last, NoStamp, StampIs, Holds, Read, Reads}
 use Rattle.mb_ble.specs.declared.content.Content.{Content}
 use Rattle.mb_ble.specs.declared.content.Head.{Head}
 use Rattle.mb_ble.specs.declared.content.Head.TheVariants as head
 use Rattle.mb_ble.proofs.Law.{rise-rest}
 use Rattle.mb_ble.proofs.Fronts.{news-above, Not, above-not, none-early, data-not}
 use Rattle.mb_frames.specs.Counting.{rest_parts}
+use Rattle.mb_ble.specs.State.{is_between}
 
 pub nothing : (ks : List Known) → IsFront [] ks
 nothing ks = (ks, refl)

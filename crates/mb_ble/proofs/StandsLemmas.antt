@@ -9,19 +9,19 @@ use Rattle.mb_stream.proofs.EventLemmas.{open_from-event}
 use Rattle.mb_stream.proofs.StandingLemmas.{joined, is_open-append, open_from}
 use Rattle.mb_stream.proofs.PutsLemmas.{signs_in-more, signs_in-flush}
 use Rattle.mb_ble.specs.Written.{ble_live, ble_written}
-use Rattle.mb_ble.specs.Writer.{Packet, Holds, nothing, flushed_in, after_all, given_all}
-use Rattle.mb_ble.specs.WriterStands.{Stands}
-use Rattle.mb_ble.specs.declared.writer.BleWriter.{BleWriter}
+use Rattle.mb_ble.specs.UnderWay.{Packet, Holds, nothing, flushed_in, after_all, given_all}
+use Rattle.mb_ble.specs.Writer.{Stands}
+use Rattle.mb_ble.specs.Writer.{Writer}
 use Rattle.mb_ble.proofs.Live.{all_hold, flush, finish, live_law}
 
-pub stands-new : (w : BleWriter) (size : ℕ) → w.packet ≡ nothing size → w.in_sysex ≡ false → Stands w []
+pub stands-new : (w : Writer) (size : ℕ) → w.packet ≡ nothing size → w.in_sysex ≡ false → Stands w []
 stands-new w size p o = record {
   each_suits = refl;
   open_now = o;
   holds = record { packet = p ∙ ap nothing (sym (ap (λ (q : Packet). q.size) p)) };
 }
 
-pub stands-put : (old new : BleWriter) (moment : ℕ) (e : Ev) (puts : List Put) → suits_event old.in_sysex e ≡ true →
+pub stands-put : (old new : Writer) (moment : ℕ) (e : Ev) (puts : List Put) → suits_event old.in_sysex e ≡ true →
     new.in_sysex ≡ open_behind old.in_sysex e → new.packet ≡ after_all old.packet moment (signs_of_event e) →
     Stands old puts → Stands new (puts ++ puts_at moment (signs_of_event e))
 stands-put old new moment e puts suits opened packet s =
@@ -34,7 +34,7 @@ stands-put old new moment e puts suits opened packet s =
       holds = subst (λ (p : Packet). Holds p (puts ++ puts_at moment (signs_of_event e))) (sym packet) (all_hold old.packet puts moment (signs_of_event e) s.holds).0;
     }
 
-pub live-more : (w : BleWriter) (moment : ℕ) (ms : List Sign) (puts : List Put) (old new : List ℕ) → new ≡ old ++ given_all w.packet moment ms → Stands w puts →
+pub live-more : (w : Writer) (moment : ℕ) (ms : List Sign) (puts : List Put) (old new : List ℕ) → new ≡ old ++ given_all w.packet moment ms → Stands w puts →
     Appended old new (ble_live w.packet.size puts) (ble_live w.packet.size (puts ++ puts_at moment ms))
 live-more w moment ms puts old new written s = record {
   wrote = given_all w.packet moment ms;
@@ -45,7 +45,7 @@ live-more w moment ms puts old new written s = record {
       ∙ ap (λ z. z ++ given_all w.packet moment ms) (sym (live_law w.packet.size puts));
 }
 
-pub stands-flush : (old new : BleWriter) (puts : List Put) → new.in_sysex ≡ old.in_sysex → new.packet ≡ nothing old.packet.size →
+pub stands-flush : (old new : Writer) (puts : List Put) → new.in_sysex ≡ old.in_sysex → new.packet ≡ nothing old.packet.size →
     Stands old puts → Stands new (puts ++ Flush ∷ [])
 stands-flush old new puts opened packet s =
     let same : signs_in (puts ++ Flush ∷ []) ≡ signs_in puts = signs_in-flush puts in
@@ -55,7 +55,7 @@ stands-flush old new puts opened packet s =
       holds = subst (λ (p : Packet). Holds p (puts ++ Flush ∷ [])) (sym packet) (flush old.packet puts s.holds).0;
     }
 
-pub live-flush : (w : BleWriter) (puts : List Put) (old new : List ℕ) → new ≡ old ++ flushed_in w.packet → Stands w puts →
+pub live-flush : (w : Writer) (puts : List Put) (old new : List ℕ) → new ≡ old ++ flushed_in w.packet → Stands w puts →
     Appended old new (ble_live w.packet.size puts) (ble_live w.packet.size (puts ++ Flush ∷ []))
 live-flush w puts old new written s = record {
   wrote = flushed_in w.packet;
@@ -65,7 +65,7 @@ live-flush w puts old new written s = record {
       ∙ ap (λ z. z ++ flushed_in w.packet) (sym (live_law w.packet.size puts));
 }
 
-pub written-rest : (w : BleWriter) (puts : List Put) (old new : List ℕ) → new ≡ old ++ flushed_in w.packet → Stands w puts →
+pub written-rest : (w : Writer) (puts : List Put) (old new : List ℕ) → new ≡ old ++ flushed_in w.packet → Stands w puts →
     Appended old new (ble_live w.packet.size puts) (ble_written w.packet.size puts)
 written-rest w puts old new written s = record {
   wrote = flushed_in w.packet;

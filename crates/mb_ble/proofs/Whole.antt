@@ -8,6 +8,8 @@ use Rattle.mb_ble.specs.Stands.{passed}
 use Rattle.mb_clock.specs.Clock.{clock_of}
 use Rattle.mb_din.specs.Reader.{Stands}
 use Rattle.mb_frames.specs.Reading.{is_partial, is_at_end, from, room_of, behind_length, length_ended, Place, Between, High, Within}
+use Rattle.mb_stream.specs.ReaderLaw.{Goes}
+use Rattle.mb_stream.proofs.ReaderLemmas as generic
 use Rattle.mb_stream.specs.Reading.{Part, part_of, so_far}
 use Rattle.mb_stream.specs.Told.{Told, Notes, Known}
 use Rattle.mb_message.specs.Front.{IsFront}
@@ -17,14 +19,15 @@ use Rattle.mb_ble.specs.Packets.{Token, Begins, Ends, byte_token, tokens, clock,
 use Rattle.mb_ble.specs.Reading.{noted, onto, unit_note, ble_known, whole_from, ble_whole}
 use Rattle.mb_ble.specs.News.{token_news, news_from}
 use Rattle.mb_ble.specs.Content.{empty_told}
-use Rattle.mb_ble.specs.Stands.{is_heady, is_between, behind, last, NoStamp, StampIs, Holds, Read, Reads, Counts, Linked, Fit, half, offset_of, whole_at, BleStands, BleGoes, BleTells}
+use Rattle.mb_ble.specs.Stands.{is_heady, behind, last, NoStamp, StampIs, Holds, Read, Reads, Counts, whole_at, BleStands, BleTells, BleAllTold}
 use Rattle.mb_ble.specs.declared.content.Content.{Content}
 use Rattle.mb_ble.specs.declared.content.Head.{Head}
 use Rattle.mb_ble.specs.declared.content.Head.TheVariants as head
-use Rattle.mb_ble.specs.declared.reader.BleReader.{BleReader}
+use Rattle.mb_ble.specs.declared.position.Position.{Position}
 use Rattle.mb_ble.proofs.Law.{ble_known-news}
 use Rattle.mb_ble.proofs.Fronts.{front-off, front-under}
 use Rattle.mb_ble.proofs.Small.{nothing}
+use Rattle.mb_ble.specs.State.{is_between, Linked, Fit, half, ble_offset}
 
 false≢true : false ≡ true → ⊥
 false≢true e = cc
@@ -38,18 +41,18 @@ onto-append [] ys before = refl
 onto-append (t ∷ xs) ys before = onto-append xs ys (t ∷ before)
 
 -- what is known of the bytes taken and of the input
-pub known-split : (now : BleReader) (bytes more : List ℕ) (told : List Known) (st : BleStands now bytes told) → ble_known (bytes ++ more) ≡ news_from [] st.taken ++ news_from st.before (tokens now.content.offset (last st.before) (from now.frames more))
+pub known-split : (now : Position) (bytes more : List ℕ) (told : List Known) (st : BleStands now bytes told) → ble_known (bytes ++ more) ≡ news_from [] st.taken ++ news_from st.before (tokens now.content.offset (last st.before) (from now.frames more))
 known-split now bytes more told st =
     ble_known-news (bytes ++ more) ∙ ap (news_from []) (st.tokens_are more) ∙ news-append st.taken (tokens now.content.offset (last st.before) (from now.frames more)) []
     ∙ ap (λ b. news_from [] st.taken ++ news_from b (tokens now.content.offset (last st.before) (from now.frames more))) (sym st.before_is)
 
-pub ahead-front : (now : BleReader) (bytes input : List ℕ) (told : List Known) (st : BleStands now bytes told) → IsFront told (ble_known (bytes ++ input)) → IsFront st.ahead (news_from st.before (tokens now.content.offset (last st.before) (from now.frames input)))
+pub ahead-front : (now : Position) (bytes input : List ℕ) (told : List Known) (st : BleStands now bytes told) → IsFront told (ble_known (bytes ++ input)) → IsFront st.ahead (news_from st.before (tokens now.content.offset (last st.before) (from now.frames input)))
 ahead-front now bytes input told st f =
     front-off (news_from [] st.taken) st.ahead (news_from st.before (tokens now.content.offset (last st.before) (from now.frames input)))
     (subst (λ z. IsFront z (news_from [] st.taken ++ news_from st.before (tokens now.content.offset (last st.before) (from now.frames input)))) st.told_is (subst (IsFront told) (known-split now bytes input told st) f))
 
 -- a step: these bytes and tokens were taken
-pub record Steps (was now : BleReader) (input left : List ℕ) (seen : List Part) (before : List Token) (ahead : List Known) : Type 0 where
+pub record Steps (was now : Position) (input left : List ℕ) (seen : List Part) (before : List Token) (ahead : List Known) : Type 0 where
   pub new : List Token
   pub taken : List ℕ
   pub front : input ≡ taken ++ left
@@ -60,7 +63,7 @@ pub record Steps (was now : BleReader) (input left : List ℕ) (seen : List Part
   pub seen_is : map part_of fresh ≡ seen
   pub told_is : ahead ++ fresh ≡ news_from before new ++ then_ahead
   pub still : IsFront then_ahead (news_from (onto before new) (tokens now.content.offset (last (onto before new)) (from now.frames left)))
-  pub offset : offset_of now ≡ offset_of was + length taken
+  pub offset : ble_offset now ≡ ble_offset was + length taken
   pub whole_is : (more : List ℕ) → whole_at was.frames (taken ++ more) ≡ whole_at now.frames more
 
 pub length-append : (xs ys : List ℕ) → length (xs ++ ys) ≡ length xs + length ys
@@ -70,10 +73,10 @@ length-append [] ys = zero_plus (length ys)
     zero_plus n = omega arith
 length-append (x ∷ xs) ys = omega (arith, length-append xs ys)
 
-pub tells-step : (was now : BleReader) (input left : List ℕ) (seen : List Part) → ((before : List Token) (ahead : List Known) → Holds was.content before ahead → IsFront ahead (news_from before (tokens was.content.offset (last before) (from was.frames input))) → Steps was now input left seen before ahead) → BleTells was now input left seen
+pub tells-step : (was now : Position) (input left : List ℕ) (seen : List Part) → ((before : List Token) (ahead : List Known) → Holds was.content before ahead → IsFront ahead (news_from before (tokens was.content.offset (last before) (from was.frames input))) → Steps was now input left seen before ahead) → BleTells was now input left seen
 tells-step was now input left seen f = record { goes = λ bytes told st front. by bytes told st (f st.before st.ahead st.holds (ahead-front was bytes input told st front)) }
   where
-    by : (bytes : List ℕ) (told : List Known) (st : BleStands was bytes told) → Steps was now input left seen st.before st.ahead → BleGoes now input left seen bytes told
+    by : (bytes : List ℕ) (told : List Known) (st : BleStands was bytes told) → Steps was now input left seen st.before st.ahead → Goes part_of ble_known (BleStands now) input left seen bytes told
     by bytes told st s =
         let nows : List Token = st.taken ++ s.new in
         let told_now : told ++ s.fresh ≡ news_from [] nows ++ s.then_ahead =
@@ -98,22 +101,13 @@ tells-step was now input left seen f = record { goes = λ bytes told st front. b
           taken = s.taken;
           front = s.front;
           fresh = s.fresh;
-          seen_is = s.seen_is;
+          answer_is = s.seen_is;
           stands = stands;
           still = subst (λ z. IsFront z (ble_known (bytes ++ input))) (sym told_now) (subst (IsFront (news_from [] nows ++ s.then_ahead)) (sym known) (front-under (news_from [] nows) s.then_ahead rest s.still));
         }
 
-pub tells-refl : (u : BleReader) (input : List ℕ) → BleTells u u input input []
-tells-refl u input = record {
-  goes = λ bytes told st front. record {
-    taken = [];
-    front = refl;
-    fresh = [];
-    seen_is = refl;
-    stands = subst (λ z. BleStands u z (told ++ [])) (sym (append-nil bytes)) (subst (λ z. BleStands u bytes z) (sym (append-nil told)) st);
-    still = subst (λ z. IsFront z (ble_known (bytes ++ input))) (sym (append-nil told)) front;
-  };
-}
+pub tells-refl : (u : Position) (input : List ℕ) → BleTells u u input input []
+tells-refl u input = record { goes = generic.tells-refl part_of ble_known (BleStands u) input }
 
 no_parts : (ks : List Known) → map part_of ks ≡ [] → ks ≡ []
 no_parts [] e = refl
@@ -123,25 +117,13 @@ no_parts (k ∷ ks) e = absurd (cons_nil (part_of k) (map part_of ks) e)
     cons_nil t ts e = cc
 
 -- a quiet step, and then another
-pub tells-trans : (u v w : BleReader) (input mid left : List ℕ) (seen : List Part) → BleTells u v input mid [] → BleTells v w mid left seen → BleTells u w input left seen
-tells-trans u v w input mid left seen a b = record { goes = λ bytes told st front. both bytes told (a.goes bytes told st front) }
-  where
-    both : (bytes : List ℕ) (told : List Known) → BleGoes v input mid [] bytes told → BleGoes w input left seen bytes told
-    both bytes told g =
-        let none : told ++ g.fresh ≡ told = ap (λ z. told ++ z) (no_parts g.fresh g.seen_is) ∙ append-nil told in
-        let same : bytes ++ input ≡ (bytes ++ g.taken) ++ mid = ap (λ z. bytes ++ z) g.front ∙ sym (append_assoc bytes g.taken mid) in
-        let h : BleGoes w mid left seen (bytes ++ g.taken) told = b.goes (bytes ++ g.taken) told (subst (λ z. BleStands v (bytes ++ g.taken) z) none g.stands) (subst (λ z. IsFront told (ble_known z)) same (subst (λ z. IsFront z (ble_known (bytes ++ input))) none g.still)) in
-        record {
-          taken = g.taken ++ h.taken;
-          front = g.front ∙ ap (λ z. g.taken ++ z) h.front ∙ sym (append_assoc g.taken h.taken left);
-          fresh = h.fresh;
-          seen_is = h.seen_is;
-          stands = subst (λ z. BleStands w z (told ++ h.fresh)) (append_assoc bytes g.taken h.taken) h.stands;
-          still = subst (λ z. IsFront (told ++ h.fresh) (ble_known z)) (sym same) h.still;
-        }
+pub tells-trans : (u v w : Position) (input mid left : List ℕ) (answer : List Part) → BleTells u v input mid [] → BleTells v w mid left answer → BleTells u w input left answer
+tells-trans u v w input mid left answer a b = record {
+  goes = generic.tells-trans part_of ble_known (BleStands u) (BleStands v) (BleStands w) input mid left [] answer a.goes b.goes;
+}
 
 -- where nothing was answered, nothing is left of the input and no content's end is to be told, all is told
-pub all_told : (was now : BleReader) (input left : List ℕ) → BleTells was now input left [] → left ≡ [] → is_at_end now.frames ≡ false → (bytes : List ℕ) (told : List Known) → BleStands was bytes told → IsFront told (ble_known (bytes ++ input)) → told ≡ ble_known (bytes ++ input)
+pub all_told : (was now : Position) (input left : List ℕ) → BleTells was now input left [] → left ≡ [] → is_at_end now.frames ≡ false → BleAllTold was input
 all_told was now input left t e z bytes told st front = by (t.goes bytes told st front)
   where
     nothing-more : (p : Place) (o : ℕ) (l : Token) → is_at_end p ≡ false → tokens o l (from p []) ≡ []
@@ -150,9 +132,9 @@ all_told was now input left t e z bytes told st front = by (t.goes bytes told st
     nothing-more (Within zero) o l z = absurd (false≢true (sym z))
     nothing-more (Within (suc n)) o l z = refl
 
-    by : BleGoes now input left [] bytes told → told ≡ ble_known (bytes ++ input)
+    by : Goes part_of ble_known (BleStands now) input left [] bytes told → told ≡ ble_known (bytes ++ input)
     by g =
-        let none : told ++ g.fresh ≡ told = ap (λ z. told ++ z) (no_parts g.fresh g.seen_is) ∙ append-nil told in
+        let none : told ++ g.fresh ≡ told = ap (λ z. told ++ z) (no_parts g.fresh g.answer_is) ∙ append-nil told in
         let all : input ≡ g.taken = g.front ∙ ap (λ z. g.taken ++ z) e ∙ append-nil g.taken in
         let b : List Token = g.stands.before in
         let toks : tokens now.content.offset (last b) (from now.frames []) ≡ [] = nothing-more now.frames now.content.offset (last b) z in
@@ -189,7 +171,7 @@ length-take zero xs le = refl
 length-take (suc n) [] le = absurd (omega arith)
 length-take (suc n) (x ∷ xs) le = ap suc (length-take n xs (omega arith))
 
-pub content_tells : (was now : BleReader) (input piece left final : List ℕ) (len used : ℕ) (seen : List Told) → 0 < room_of was.frames → len ≤ room_of was.frames → len ≤ length input → piece ≡ take len input → Reads was.content now.content piece left seen → Counts was.content now.content piece left →
+pub content_tells : (was now : Position) (input piece left final : List ℕ) (len used : ℕ) (seen : List Told) → 0 < room_of was.frames → len ≤ room_of was.frames → len ≤ length input → piece ≡ take len input → Reads was.content now.content piece left seen → Counts was.content now.content piece left →
     used ≡ len - length left → now.frames ≡ passed was.frames used → final ≡ drop used input → BleTells was now input final (map (λ t. record { moment = now.content.clock.moment; told = t }) seen)
 content_tells was now input piece left final len used seen pos fits short p reads counts u moves fin = tells-step was now input final (map (λ t. record { moment = now.content.clock.moment; told = t }) seen) (λ before ahead holds front. by was.frames refl pos fits moves before ahead holds front)
   where
@@ -240,7 +222,7 @@ content_tells was now input piece left final len used seen pos fits short p read
         goes r (Within r) e refl fits moves before ahead (reads.reads before ahead r beyond holds (omega (arith, size, fits))
         (subst (λ z. IsFront ahead (news_from before (tokens was.content.offset (last before) (rest_parts r z)))) cut (subst (λ q. IsFront ahead (news_from before (tokens was.content.offset (last before) (from q input)))) e front)))
 
-pub content_fit : (was now : BleReader) (piece left : List ℕ) (used : ℕ) → 0 < room_of was.frames → Fit was → Counts was.content now.content piece left → now.frames ≡ passed was.frames used → Fit now
+pub content_fit : (was now : Position) (piece left : List ℕ) (used : ℕ) → 0 < room_of was.frames → Fit was → Counts was.content now.content piece left → now.frames ≡ passed was.frames used → Fit now
 content_fit was now piece left used pos fit counts moves = record { calm = counts.calm fit.calm; linked = by was.frames pos fit.linked moves }
   where
     by : (frames : Place) → 0 < room_of frames → Linked frames was.content → now.frames ≡ passed frames used → Linked now.frames now.content
@@ -249,7 +231,7 @@ content_fit was now piece left used pos fit counts moves = record { calm = count
     by (Within r) pos l m = subst (λ q. Linked q now.content) (sym m) (counts.inside l.0, omega (arith, l.1, counts.offset))
 
 -- nothing taken, nothing told
-pub starts : (now : BleReader) → now.frames ≡ Between → now.content.offset ≡ 0 → now.content.head ≡ head.Between → now.content.clock ≡ clock_of [] → now.content.running ≡ None → Stands now.content.din [] [] → now.content.din.offset ≡ 0 → BleStands now [] []
+pub starts : (now : Position) → now.frames ≡ Between → now.content.offset ≡ 0 → now.content.head ≡ head.Between → now.content.clock ≡ clock_of [] → now.content.running ≡ None → Stands now.content.din [] [] → now.content.din.offset ≡ 0 → BleStands now [] []
 starts now f o h c r d l = record {
   taken = [];
   before = [];
@@ -294,7 +276,7 @@ between_quiet was before ahead z h = by was.head refl z
     by (head.Stamped at) e z = absurd (false≢true z)
     by head.Spent e z = absurd (false≢true z)
 
-pub length_first : (was now : BleReader) (input left : List ℕ) (b : ℕ) → input ≡ b ∷ left → now.content ≡ was.content → now.frames ≡ behind_length was.frames b → length_ended was.frames b ≡ None → is_at_end was.frames ≡ false → room_of was.frames ≡ 0 → BleTells was now input left []
+pub length_first : (was now : Position) (input left : List ℕ) (b : ℕ) → input ≡ b ∷ left → now.content ≡ was.content → now.frames ≡ behind_length was.frames b → length_ended was.frames b ≡ None → is_at_end was.frames ≡ false → room_of was.frames ≡ 0 → BleTells was now input left []
 length_first was now input left b e same place none end between = tells-step was now input left [] (λ before ahead holds front. by was.frames refl place none end between before ahead holds front)
   where
     some_none : (n : ℕ) → Some n ≡ None → ⊥
@@ -327,7 +309,7 @@ length_first was now input left b e same place none end between = tells-step was
         one-more : (o : ℕ) → o + 1 ≡ o + 0 + length (b ∷ [])
         one-more o = omega arith
 
-pub length_second : (was now : BleReader) (input left : List ℕ) (b len moment : ℕ) (seen : List Part) → input ≡ b ∷ left → Fit was → now.content ≡ (let c : Content = was.content in record c { offset = c.offset + 2; head = head.Header; running = None }) → now.frames ≡ behind_length was.frames b → length_ended was.frames b ≡ Some len →
+pub length_second : (was now : Position) (input left : List ℕ) (b len moment : ℕ) (seen : List Part) → input ≡ b ∷ left → Fit was → now.content ≡ (let c : Content = was.content in record c { offset = c.offset + 2; head = head.Header; running = None }) → now.frames ≡ behind_length was.frames b → length_ended was.frames b ≡ Some len →
     moment ≡ was.content.clock.moment → seen ≡ map (λ t. record { moment = moment; told = t }) (empty_told was.content.offset len) → BleTells was now input left seen
 length_second was now input left b len moment seen e fit same place known mom told = tells-step was now input left seen (λ before ahead holds front. by was.frames refl place known fit.linked before ahead holds)
   where
@@ -397,5 +379,5 @@ partial-by (Within (suc n)) r e = e ∙ ap not (not_zero n)
     not_zero : (n : ℕ) → (suc n == 0) ≡ false
     not_zero n = grind (arith, nat_tests)
 
-pub partial_law : (now : BleReader) (r : Bool) → r ≡ is_partial now.frames → (bytes : List ℕ) (told : List Known) → BleStands now bytes told → r ≡ not (ble_whole bytes)
+pub partial_law : (now : Position) (r : Bool) → r ≡ is_partial now.frames → (bytes : List ℕ) (told : List Known) → BleStands now bytes told → r ≡ not (ble_whole bytes)
 partial_law now r e bytes told st = partial-by now.frames r e ∙ ap not (sym (st.whole_is []) ∙ ap ble_whole (append-nil bytes))

@@ -11,7 +11,7 @@ use Rattle.mb_ble.specs.Reading.{ble_known, onto, whole_from, ble_whole}
 use Rattle.mb_ble.specs.News.{news_from}
 use Rattle.mb_ble.specs.Written.{Spelled, content, header, spelling, running_of, ends, ble_live, ble_written}
 use Rattle.mb_ble.specs.Running.{flushed, given_at, under_way_at, live_from, under_way_from, live, under_way}
-use Rattle.mb_ble.specs.Writer.{is_abort}
+use Rattle.mb_ble.specs.UnderWay.{is_abort}
 use Rattle.mb_ble.proofs.WriterLemmas.{short_spelling}
 use Rattle.mb_ble.proofs.Live.{at_abort, at_spelled, live_law, written_law}
 use Rattle.mb_ble.proofs.Law.{ble_known-news}

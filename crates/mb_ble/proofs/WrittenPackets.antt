@@ -21,7 +21,7 @@ use Rattle.mb_ble.specs.Reading.{ble_reading}
 use Rattle.mb_ble.specs.Written.{Spelled, running_of, spelling, content, first_stamp, last_moment, header, ended, ble_live, ble_written}
 use Rattle.mb_ble.specs.Written as written
 use Rattle.mb_ble.specs.Running.{flushed, live_from, under_way_from, under_way}
-use Rattle.mb_ble.specs.Writer.{is_abort}
+use Rattle.mb_ble.specs.UnderWay.{is_abort}
 use Rattle.mb_ble.proofs.Live.{at_spelled, live_law, written_law}
 use Rattle.mb_ble.proofs.PacketMachine.{AtHeader, AtSkipped, AtBody, Packeted, cut, in_body, between, byte_tells, part_noted, read_parts, CleanParts}
 use Rattle.mb_ble.proofs.SpelledPacket.{byte_after, body_tells, body_after, CleanBody, body_tells-append, body_after-append, CleanBody-append, Spell, spell, stamp-high, Meets-cut}

@@ -4,23 +4,24 @@ use Rattle.mb_din.specs.Reader.{Stands}
 use Rattle.mb_message.specs.declared.event.Seen.{Seen}
 use Rattle.mb_din.specs.State.{State, owed}
 use Rattle.mb_message.specs.Front.{IsFront}
-use Rattle.mb_stream.specs.ReaderLaw.{StatusNext, answer}
+use Rattle.mb_stream.specs.ReaderLaw.{StatusNext, Tells, AllTold, told_by}
 use Rattle.mb_frames.specs.Reading.{from, Place, Between, High, Within}
 use Rattle.mb_message.specs.Bytes.{is_channel}
 use Rattle.mb_stream.specs.Groups.{is_sysex, last_of}
 use Rattle.mb_stream.specs.Payload.{Entry}
-use Rattle.mb_stream.specs.Reading.{Part, part_of, so_far}
+use Rattle.mb_stream.specs.Reading.{Part, part_of, part_at, so_far}
 use Rattle.mb_stream.specs.Told.{Told, Known, may_run}
 use Rattle.mb_message.specs.declared.note.NoteKind.TheVariants.{LoneStamp}
 use Rattle.mb_frames.specs.Counting.{rest_parts}
 use Rattle.mb_ble.specs.Packets.{Token, Begins, Skipped, Stamp, Ends, byte_token, tokens, clock, running, is_full, payload, all_tokens}
 use Rattle.mb_ble.specs.Reading.{lone, noted, ble_known, onto, whole_from, ble_whole}
 use Rattle.mb_ble.specs.News.{news_from}
+use Rattle.mb_ble.specs.State.{Calm, is_between, ble_offset, ble_moment}
 use Rattle.mb_ble.specs.declared.content.Content.{Content}
 use Rattle.mb_ble.specs.declared.content.Head.{Head}
 use Rattle.mb_ble.specs.declared.content.Head.TheVariants as head
-use Rattle.mb_ble.specs.declared.reader.BleReader.{BleReader}
-use Rattle.mb_ble.specs.declared.reader.BleStep.{BleStep}
+use Rattle.mb_ble.specs.declared.position.Position.{Position}
+use Rattle.mb_ble.specs.declared.step.BleStep.{BleStep}
 
 -- so many bytes of a content were taken
 abbrev pub passed : Place → ℕ → Place
@@ -42,14 +43,6 @@ is_heady head.Skip = true
 is_heady head.Inside = false
 is_heady (head.Stamped at) = false
 is_heady head.Spent = false
-
-abbrev pub is_between : Head → Bool
-is_between head.Between = true
-is_between head.Header = false
-is_between head.Skip = false
-is_between head.Inside = false
-is_between (head.Stamped at) = false
-is_between head.Spent = false
 
 -- a token behind which a byte is what it is here
 abbrev pub behind : Head → Token
@@ -118,41 +111,12 @@ pub record Reads (was now : Content) (input left : List ℕ) (seen : List Told) 
   pub reads : (before : List Token) (told : List Known) (room : ℕ) (following : List ℕ) → Holds was before told → length input ≤ room →
       IsFront told (news_from before (tokens was.offset (last before) (rest_parts room (input ++ following)))) → Read was now input left seen before told room following
 
--- what a call may know of a reader without a recording: where the reader of groups stands, what runs, and how late it is
-abbrev pub slack : Head → ℕ
-slack head.Between = 2
-slack head.Header = 1
-slack head.Skip = 1
-slack head.Inside = 1
-slack (head.Stamped at) = 2
-slack head.Spent = 2
-
-pub record Calm (now : Content) : Type 0 where
-  pub low : now.din.offset ≤ now.offset
-  pub runs : IfSome now.running (λ s. is_channel s ≡ true)
-  pub moment : 2 * now.clock.moment ≤ 8191 * (now.offset + slack now.head)
-
 pub record Counts (was now : Content) (input left : List ℕ) : Type 0 where
   pub taken : List ℕ
   pub front : input ≡ taken ++ left
   pub offset : now.offset ≡ was.offset + length taken
   pub calm : Calm was → Calm now
   pub inside : is_between was.head ≡ false → is_between now.head ≡ false
-
--- what may be told before a byte is taken: of a stamp, and of what is begun or open
-abbrev pub stamp_owed : Head → ℕ
-stamp_owed head.Between = 0
-stamp_owed head.Header = 0
-stamp_owed head.Skip = 0
-stamp_owed head.Inside = 0
-stamp_owed (head.Stamped at) = 1
-stamp_owed head.Spent = 0
-
-abbrev pub content_owed : Content → ℕ
-content_owed now = owed now.din + stamp_owed now.head
-
-abbrev pub reader_owed : BleReader → ℕ
-reader_owed now = content_owed now.content
 
 -- what the reader of groups knows of its groups where all is told
 abbrev pub MayRun : State → Bool → Type 0
@@ -161,28 +125,8 @@ MayRun s b = (entries : List Entry) → Stands s entries (so_far entries) → ma
 abbrev pub HasOpen : State → Bool → Type 0
 HasOpen s b = (entries : List Entry) → Stands s entries (so_far entries) → is_sysex (last_of entries) ≡ b
 
--- between packets exactly where the frames are
-abbrev pub Linked : Place → Content → Type 0
-Linked Between c = is_between c.head ≡ true
-Linked (High high) c = is_between c.head ≡ true
-Linked (Within left) c = (is_between c.head ≡ false) × (0 < c.offset)
-
-pub record Fit (now : BleReader) : Type 0 where
-  pub calm : Calm now.content
-  pub linked : Linked now.frames now.content
-
--- the first byte of a length was taken, and its packet isn't begun
-abbrev pub half : Place → ℕ
-half Between = 0
-half (High high) = 1
-half (Within left) = 0
-
--- the offset of the next byte
-abbrev pub offset_of : BleReader → ℕ
-offset_of now = now.content.offset + half now.frames
-
 -- The reader has taken these bytes and told this: all that their tokens tell, and perhaps what the next byte or the packet's end made known.
-pub record BleStands (now : BleReader) (bytes : List ℕ) (told : List Known) : Type 0 where
+pub record BleStands (now : Position) (bytes : List ℕ) (told : List Known) : Type 0 where
   pub taken : List Token
   pub before : List Token
   pub before_is : before ≡ onto [] taken
@@ -190,29 +134,28 @@ pub record BleStands (now : BleReader) (bytes : List ℕ) (told : List Known) : 
   pub ahead : List Known
   pub told_is : told ≡ news_from [] taken ++ ahead
   pub holds : Holds now.content before ahead
-  pub offset : offset_of now ≡ length bytes
+  pub offset : ble_offset now ≡ length bytes
   pub whole_is : (more : List ℕ) → ble_whole (bytes ++ more) ≡ whole_at now.frames more
 
-pub record BleGoes (now : BleReader) (input left : List ℕ) (seen : List Part) (bytes : List ℕ) (told : List Known) : Type 0 where
-  pub taken : List ℕ
-  pub front : input ≡ taken ++ left
-  pub fresh : List Known
-  pub seen_is : map part_of fresh ≡ seen
-  pub stands : BleStands now (bytes ++ taken) (told ++ fresh)
-  pub still : IsFront (told ++ fresh) (ble_known (bytes ++ input))
+-- what a call took and told, and that the reader stands for both, whatever was taken and told before
+pub record BleTells (was now : Position) (input left : List ℕ) (answer : List Part) : Type 0 where
+  pub goes : Tells part_of ble_known (BleStands was) (BleStands now) input left answer
 
--- whatever was taken and told before, as long as what was told is a front of what is known of it with the input
-pub record BleTells (was now : BleReader) (input left : List ℕ) (seen : List Part) : Type 0 where
-  pub goes : (bytes : List ℕ) (told : List Known) → BleStands was bytes told → IsFront told (ble_known (bytes ++ input)) → BleGoes now input left seen bytes told
+abbrev pub BleAllTold : Position → List ℕ → Type 0
+BleAllTold was input = AllTold ble_known (BleStands was) input
+
+-- what is told has the moment of the last stamp
+abbrev pub at_moment : Position → List Told → List Part
+at_moment now ts = map (part_at (ble_moment now)) ts
 
 abbrev pub ble_answer : Option BleStep → List Part
 ble_answer None = []
-ble_answer (Some s) = map (λ t. record { moment = s.moment; told = t }) (answer (Some s.seen))
+ble_answer (Some s) = map (part_at s.moment) (told_by s.seen)
 
 abbrev pub seen_of : Option BleStep → Option Seen
 seen_of None = None
 seen_of (Some s) = Some s.seen
 
 -- what was broken: a status breaks it, which still stands in the input, or the packet's end
-abbrev pub BrokenNext : BleReader → List ℕ → Type 0
+abbrev pub BrokenNext : Position → List ℕ → Type 0
 BrokenNext now left = StatusNext left ⊎ (now.frames ≡ Between)

@@ -1,20 +1,21 @@
 //! Reads the contents of packets.
 
-ghost use Rattle.std.specs.Prelude.{◌≡◌, ℕ, List, [], ◌∷◌, ◌++◌, ◌+◌, ◌*◌, ◌%◌, ◌^◌, ◌<◌, ◌≤◌, ◌⊎◌, Option, Some, None, false, true, length, IfNone, IfSome, OnSome, nat_lt, if◌then◌else◌, take, drop};
+ghost use Rattle.std.specs.Prelude.{◌≡◌, ℕ, List, [], ◌∷◌, ◌++◌, ◌+◌, ◌*◌, ◌%◌, ◌^◌, ◌<◌, ◌≤◌, ◌⊎◌, Option, Some, None, false, true, length, IfNone, IfSome, OnSome, IsSome, ◌↔◌, nat_lt, if◌then◌else◌, take, drop};
 ghost use Rattle.mb_clock.specs.Clock.{clock_of};
 ghost use Rattle.mb_din.specs.Reader.{Stands, RunNext};
-ghost use Rattle.mb_din.specs.State.{free_now, open_now, owed, Rests};
+ghost use Rattle.mb_din.specs.State.{fresh, free_now, open_now, owed, Rests};
 ghost use Rattle.mb_din.specs.Turn.{data_front};
 ghost use Rattle.mb_message.specs.Bytes.{is_channel};
 ghost use Rattle.mb_stream.specs.Groups.{last_of, is_sysex};
 ghost use Rattle.mb_stream.specs.Payload.{Entry};
-ghost use Rattle.mb_stream.specs.Reading.{so_far};
+ghost use Rattle.mb_stream.specs.Reading.{so_far, told_signs};
 ghost use Rattle.mb_stream.specs.Told.{Notes, Known, at_end};
 ghost use Rattle.mb_message.specs.declared.note.NoteKind.TheVariants.{LoneStamp as LoneStampKind};
 ghost use Rattle.mb_ble.specs.declared.content.Head.TheVariants.{Between as AtBetween, Header as AtHeader, Skip as AtSkip, Inside as AtInside, Stamped as AtStamped, Spent as AtSpent};
 ghost use Rattle.mb_ble.specs.Content.{empty_told, headed, headed_told, stamped_at, advanced, running_then, is_common, Hands, Took, EndedBy};
-ghost use Rattle.mb_ble.specs.Stands.{Reads, Counts, Calm, MayRun, HasOpen, is_heady, is_between, content_owed};
+ghost use Rattle.mb_ble.specs.Stands.{Reads, Counts, MayRun, HasOpen, is_heady};
 ghost use Rattle.mb_stream.specs.ReaderLaw.{IsLongest, StatusNext, breaks, begins_run, answer};
+ghost use Rattle.mb_ble.specs.State.{Calm, is_between, content_owed};
 
 use mb_clock::Unwrap;
 use mb_din::DinReader;
@@ -123,7 +124,8 @@ impl Content {
         ensures told { answer result ≡ empty_told self.old.offset len }
         ensures owed { content_owed self.new ≤ content_owed self.old }
         ensures some { OnSome result (answer result ≡ [] → ⊥) }
-        ensures plain { breaks (answer result) ≡ false }
+        ensures unbroken { breaks (answer result) ≡ false }
+        ensures silent { told_signs (answer result) ≡ [] }
         ensures longest { (left : List ℕ) → IfSome result (IsLongest left) }
     {
         let at = self.offset;
@@ -145,7 +147,8 @@ impl Content {
         ensures state { self.new ≡ headed self.old byte }
         ensures told { answer result ≡ headed_told self.old byte }
         ensures some { OnSome result (answer result ≡ [] → ⊥) }
-        ensures plain { breaks (answer result) ≡ false }
+        ensures unbroken { breaks (answer result) ≡ false }
+        ensures silent { told_signs (answer result) ≡ [] }
         ensures longest { (left : List ℕ) → IfSome result (IsLongest left) }
     {
         let at = self.offset;
@@ -181,7 +184,8 @@ impl Content {
         ensures state { self.new ≡ record self.old { head = AtSpent } }
         ensures told { answer result ≡ Notes at LoneStampKind ∷ [] }
         ensures some { OnSome result (answer result ≡ [] → ⊥) }
-        ensures plain { breaks (answer result) ≡ false }
+        ensures unbroken { breaks (answer result) ≡ false }
+        ensures silent { told_signs (answer result) ≡ [] }
         ensures longest { (left : List ℕ) → IfSome result (IsLongest left) }
     {
         self.head = Head::Spent;
@@ -203,6 +207,7 @@ impl Content {
         ensures longest { IfSome result (IsLongest piece.new.now) }
         ensures free { is_common (answer result) ≡ true → free_now self.new.din ≡ true }
         ensures before { breaks (answer result) ≡ true → StatusNext piece.new.now × Rests self.new.din }
+        ensures few { length (told_signs (answer result)) ≤ length piece.old.now }
         ensures runs { begins_run (answer result) ≡ true → RunNext self.old.din piece.old.now }
         ensures progress { OnSome result (2 * length piece.new.now + owed self.new.din < 2 * length piece.old.now + owed self.old.din) }
     {
@@ -231,7 +236,8 @@ impl Content {
     pub fn end_stamp<'a>(&mut self) -> Option<Seen<'a>>
         ensures some { OnSome result ((at : ℕ) × (self.old.head ≡ AtStamped at) × (answer result ≡ Notes at LoneStampKind ∷ []) × (self.new ≡ record self.old { head = AtSpent })) }
         ensures none { IfNone result ((self.new ≡ self.old) × ((at : ℕ) → self.old.head ≡ AtStamped at → ⊥)) }
-        ensures plain { breaks (answer result) ≡ false }
+        ensures unbroken { breaks (answer result) ≡ false }
+        ensures silent { told_signs (answer result) ≡ [] }
         ensures longest { (left : List ℕ) → IfSome result (IsLongest left) }
         ensures falls { OnSome result (content_owed self.new < content_owed self.old) }
     {
@@ -244,6 +250,7 @@ impl Content {
     /// Takes a content's end.
     pub fn end_groups<'a>(&mut self) -> Option<Seen<'a>>
         ensures ended { EndedBy self.old self.new (answer result) }
+        ensures silent { told_signs (answer result) ≡ [] }
         ensures rests { OnSome result (Rests self.new.din) }
         ensures clock { self.new.clock ≡ self.old.clock }
         ensures some { OnSome result (answer result ≡ [] → ⊥) }
@@ -268,7 +275,8 @@ impl Content {
         ensures counts { Counts self.old self.new piece.old.now piece.new.now }
         ensures falls { 2 * length piece.new.now + content_owed self.new < 2 * length piece.old.now + content_owed self.old }
         ensures some { OnSome result (answer result ≡ [] → ⊥) }
-        ensures plain { breaks (answer result) ≡ false }
+        ensures unbroken { breaks (answer result) ≡ false }
+        ensures silent { told_signs (answer result) ≡ [] }
         ensures longest { (left : List ℕ) → IfSome result (IsLongest left) }
         ensures none { IfNone result (length piece.new.now < length piece.old.now) }
     {
@@ -312,6 +320,7 @@ impl Content {
         ensures falls { 2 * length piece.new.now + content_owed self.new < 2 * length piece.old.now + content_owed self.old }
         ensures some { OnSome result (answer result ≡ [] → ⊥) }
         ensures before { breaks (answer result) ≡ true → StatusNext piece.new.now × Rests self.new.din }
+        ensures few { length (told_signs (answer result)) ≤ length piece.old.now }
         ensures longest { IfSome result (IsLongest piece.new.now) }
         ensures none { IfNone result (length piece.new.now < length piece.old.now) }
     {
@@ -353,6 +362,7 @@ impl Content {
         ensures falls { 2 * length piece.new.now + content_owed self.new < 2 * length piece.old.now + content_owed self.old }
         ensures some { OnSome result (answer result ≡ [] → ⊥) }
         ensures before { breaks (answer result) ≡ true → StatusNext piece.new.now × Rests self.new.din }
+        ensures few { length (told_signs (answer result)) ≤ length piece.old.now }
         ensures none { IfNone result (length piece.new.now < length piece.old.now) }
         ensures longest { IfSome result (IsLongest piece.new.now) }
     {
@@ -377,6 +387,7 @@ impl Content {
         ensures falls { 2 * length piece.new.now + content_owed self.new < 2 * length piece.old.now + content_owed self.old }
         ensures some { OnSome result (answer result ≡ [] → ⊥) }
         ensures before { breaks (answer result) ≡ true → StatusNext piece.new.now × Rests self.new.din }
+        ensures few { length (told_signs (answer result)) ≤ length piece.old.now }
         ensures longest { IfSome result (IsLongest piece.new.now) }
         ensures none { IfNone result (length piece.new.now < length piece.old.now) }
     {
@@ -394,13 +405,14 @@ impl Content {
     }
 
     /// What only the end makes known.
-    pub fn finish<'a>(&mut self) -> Option<Seen<'a>>
-        ensures told { (entries : List Entry) → Stands self.old.din entries (so_far entries) → answer result ≡ at_end (last_of entries) }
+    pub fn finish(&mut self) -> Option<Seen<'static>>
+        ensures told { (entries : List Entry) → Stands self.old.din entries (so_far entries) →
+            answer result ≡ at_end (last_of entries) }
         ensures state { self.new ≡ record self.old { running = None; din = self.new.din } }
-        ensures fresh { Stands self.new.din [] [] }
-        ensures rests { Rests self.new.din }
-        ensures low { self.new.din.offset ≡ self.old.din.offset }
+        ensures as_fresh { self.new.din ≡ record fresh { offset = self.old.din.offset } }
+        ensures stands { Stands self.new.din [] [] }
         ensures some { OnSome result (answer result ≡ [] → ⊥) }
+        ensures when { IsSome result ↔ (free_now self.old.din ≡ false) }
     {
         self.running = None;
         self.din.finish()

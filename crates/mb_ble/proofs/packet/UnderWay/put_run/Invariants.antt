@@ -1,7 +1,7 @@
 use Rattle.std.proofs.Common.{◌≡◌, ◌+◌, ◌*◌, ◌≤◌, ◌++◌, length, map}
 use Rattle.arrayvec.specs.ArrayVec.{array_vec_len}
 use Rattle.mb_message.specs.Signs.{ByteSign}
-use Rattle.mb_ble.specs.Writer.{after_all, given_all}
+use Rattle.mb_ble.specs.UnderWay.{after_all, given_all}
 use Rattle.mb_ble.proofs.packet.UnderWay.put_run.Given as goal
 
 -- of what is left
