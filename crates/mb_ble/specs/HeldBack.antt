@@ -1,4 +1,5 @@
--- What a writer holds back: of what it was given a first part is written as if it were all, and the rest is one packet, or none.
+-- What a writer holds back: of what it was given a first part is written as if it were all, and the rest is one packet,
+-- or none.
 --
 --   IsSplit n puts shown held     what is written so far of all of it is all that is written of the first part
 use Rattle.std.specs.Prelude.{◌≡◌, ℕ, ◌≤◌, List, [], ◌++◌, length, ◌⊎◌}

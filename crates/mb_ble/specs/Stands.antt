@@ -1,8 +1,16 @@
--- A reader of packets that has taken these bytes and told this.
-use Rattle.std.specs.Prelude.{◌≡◌, ℕ, ◌+◌, ◌-◌, ◌*◌, ◌<◌, ◌≤◌, ◌⊎◌, Bool, true, false, if◌then◌else◌, List, [], ◌∷◌, ◌++◌, map, length, Option, Some, None, IfSome}
+-- What a reader of packets promises: the relation between what it keeps, the bytes that it took, and what it told of
+-- them.
+--
+--   BleStands now bytes told     the reader took these bytes and told this
+--   BleTells was now ..          what a call took and told, and that the reader stands for both
+--   BleAllTold was input         all that is known of the input was told: what `None` says
+--   ble_answer, seen_of          what a step tells, with its moment and without
+--   BrokenNext now left          what breaks a message stands next: a status in the input, or a packet's end
+--   Holds, Read, Reads, Counts   the same of the content of a packet, whatever its room and whatever follows
+use Rattle.std.specs.Prelude.{◌≡◌, ℕ, ◌+◌, ◌-◌, ◌<◌, ◌≤◌, ◌⊎◌, Bool, true, false, if◌then◌else◌, List, [], ◌∷◌, ◌++◌, map, length, Option, Some, None}
 use Rattle.mb_din.specs.Reader.{Stands}
 use Rattle.mb_message.specs.declared.event.Seen.{Seen}
-use Rattle.mb_din.specs.State.{State, owed}
+use Rattle.mb_din.specs.State.{State}
 use Rattle.mb_message.specs.Front.{IsFront}
 use Rattle.mb_stream.specs.ReaderLaw.{StatusNext, Tells, AllTold, told_by}
 use Rattle.mb_frames.specs.Reading.{from, Place, Between, High, Within}
@@ -62,9 +70,13 @@ abbrev pub NoStamp : List Token → List Known → Type 0
 NoStamp before told = (told ≡ []) × ((low : Bool) (rank known_at : ℕ) → lone low rank known_at before ≡ [])
 
 abbrev pub StampIs : Head → (offset : ℕ) → List Token → List Known → Type 0
-StampIs (head.Stamped at) offset before told = (told ≡ []) × ((low : Bool) (rank known_at : ℕ) → lone low rank known_at before ≡ (if low then [] else noted rank (clock before).moment known_at at LoneStamp ∷ []))
-StampIs head.Spent offset before told = (at : ℕ) × ((told ≡ noted 0 (clock before).moment offset at LoneStamp ∷ []) ⊎ ((told ≡ noted 5 (clock before).moment (offset - 1) at LoneStamp ∷ []) × (0 < offset)))
-    × ((low : Bool) (rank known_at : ℕ) → lone low rank known_at before ≡ (if low then [] else noted rank (clock before).moment known_at at LoneStamp ∷ []))
+StampIs (head.Stamped at) offset before told = (told ≡ [])
+    × ((low : Bool) (rank known_at : ℕ) → lone low rank known_at before
+    ≡ (if low then [] else noted rank (clock before).moment known_at at LoneStamp ∷ []))
+StampIs head.Spent offset before told = (at : ℕ) × ((told ≡ noted 0 (clock before).moment offset at LoneStamp ∷ [])
+    ⊎ ((told ≡ noted 5 (clock before).moment (offset - 1) at LoneStamp ∷ []) × (0 < offset)))
+    × ((low : Bool) (rank known_at : ℕ) → lone low rank known_at before
+    ≡ (if low then [] else noted rank (clock before).moment known_at at LoneStamp ∷ []))
 StampIs head.Between offset before told = NoStamp before told
 StampIs head.Header offset before told = NoStamp before told
 StampIs head.Skip offset before told = NoStamp before told
@@ -78,7 +90,8 @@ abbrev pub AreEarly : ℕ → List Known → Type 0
 AreEarly offset [] = Unit {0}
 AreEarly offset (k ∷ ks) = Early offset k × AreEarly offset ks
 
--- The content's reader stands for these tokens, of which all is told, and for this that the next byte or the packet's end made known.
+-- The content's reader stands for these tokens, of which all is told, and for this that the next byte or the packet's
+-- end made known.
 pub record Holds (now : Content) (before : List Token) (told : List Known) : Type 0 where
   pub clock_is : now.clock ≡ clock before
   pub running_is : now.running ≡ running before
@@ -94,22 +107,28 @@ pub record Holds (now : Content) (before : List Token) (told : List Known) : Typ
   pub low : now.din.offset ≤ now.offset
   pub rested : is_heady now.head ≡ true → early ≡ []
 
--- A reader of a content read the front of its input: whatever it stood for, and whatever follows in the packet and behind it.
-pub record Read (was now : Content) (input left : List ℕ) (seen : List Told) (before : List Token) (told : List Known) (room : ℕ) (following : List ℕ) : Type 0 where
+-- A reader of a content read the front of its input: whatever it stood for, and whatever follows in the packet and
+-- behind it.
+pub record Read (was now : Content) (input left : List ℕ) (seen : List Told) (before : List Token)
+    (told : List Known) (room : ℕ) (following : List ℕ) : Type 0 where
   pub new : List Token
   pub taken : List ℕ
   pub front : input ≡ taken ++ left
-  pub parts : (more : List ℕ) → tokens was.offset (last before) (rest_parts room (taken ++ more)) ≡ new ++ tokens now.offset (last (onto before new)) (rest_parts (room - length taken) more)
+  pub parts : (more : List ℕ) → tokens was.offset (last before) (rest_parts room (taken ++ more)) ≡
+      new ++ tokens now.offset (last (onto before new)) (rest_parts (room - length taken) more)
   pub ahead : List Known
   pub holds : Holds now (onto before new) ahead
   pub fresh : List Known
   pub seen_is : map part_of fresh ≡ map (λ t. record { moment = now.clock.moment; told = t }) seen
   pub told_is : told ++ fresh ≡ news_from before new ++ ahead
-  pub still : IsFront ahead (news_from (onto before new) (tokens now.offset (last (onto before new)) (rest_parts (room - length taken) (left ++ following))))
+  pub still : IsFront ahead (news_from (onto before new)
+      (tokens now.offset (last (onto before new)) (rest_parts (room - length taken) (left ++ following))))
 
 pub record Reads (was now : Content) (input left : List ℕ) (seen : List Told) : Type 0 where
-  pub reads : (before : List Token) (told : List Known) (room : ℕ) (following : List ℕ) → Holds was before told → length input ≤ room →
-      IsFront told (news_from before (tokens was.offset (last before) (rest_parts room (input ++ following)))) → Read was now input left seen before told room following
+  pub reads : (before : List Token) (told : List Known) (room : ℕ) (following : List ℕ) → Holds was before told →
+      length input ≤ room →
+      IsFront told (news_from before (tokens was.offset (last before) (rest_parts room (input ++ following)))) →
+      Read was now input left seen before told room following
 
 pub record Counts (was now : Content) (input left : List ℕ) : Type 0 where
   pub taken : List ℕ
@@ -118,19 +137,21 @@ pub record Counts (was now : Content) (input left : List ℕ) : Type 0 where
   pub calm : Calm was → Calm now
   pub inside : is_between was.head ≡ false → is_between now.head ≡ false
 
--- what the reader of groups knows of its groups where all is told
+-- what the byte stream's reader knows where all is told
 abbrev pub MayRun : State → Bool → Type 0
 MayRun s b = (entries : List Entry) → Stands s entries (so_far entries) → may_run (last_of entries) ≡ b
 
 abbrev pub HasOpen : State → Bool → Type 0
 HasOpen s b = (entries : List Entry) → Stands s entries (so_far entries) → is_sysex (last_of entries) ≡ b
 
--- The reader has taken these bytes and told this: all that their tokens tell, and perhaps what the next byte or the packet's end made known.
+-- The reader has taken these bytes and told this: all that their tokens tell, and perhaps what the next byte or the
+-- packet's end made known.
 pub record BleStands (now : Position) (bytes : List ℕ) (told : List Known) : Type 0 where
   pub taken : List Token
   pub before : List Token
   pub before_is : before ≡ onto [] taken
-  pub tokens_are : (more : List ℕ) → all_tokens (bytes ++ more) ≡ taken ++ tokens now.content.offset (last before) (from now.frames more)
+  pub tokens_are : (more : List ℕ) → all_tokens (bytes ++ more) ≡
+      taken ++ tokens now.content.offset (last before) (from now.frames more)
   pub ahead : List Known
   pub told_is : told ≡ news_from [] taken ++ ahead
   pub holds : Holds now.content before ahead

@@ -62,7 +62,9 @@ is_between head.Inside = false
 is_between (head.Stamped at) = false
 is_between head.Spent = false
 
--- what a call may know of a reader without a recording: where the reader of groups stands, what runs, and how late it is
+-- What holds without a word about the recording: the byte stream's reader isn't ahead, a status that runs is a
+-- channel's, and the moment is small beside the offset, since half of the bytes at most are stamps, and each adds 8,191
+-- at most.
 abbrev pub slack : Head → ℕ
 slack head.Between = 2
 slack head.Header = 1

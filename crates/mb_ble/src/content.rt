@@ -1,4 +1,4 @@
-//! Reads the contents of packets.
+//! The content of a packet, byte by byte: its header, stamps, and what the byte stream in it tells.
 
 ghost use Rattle.std.specs.Prelude.{◌≡◌, ℕ, List, [], ◌∷◌, ◌++◌, ◌+◌, ◌*◌, ◌%◌, ◌^◌, ◌<◌, ◌≤◌, ◌⊎◌, Option, Some, None, false, true, length, IfNone, IfSome, OnSome, IsSome, ◌↔◌, nat_lt, if◌then◌else◌, take, drop};
 ghost use Rattle.mb_clock.specs.Clock.{clock_of};
@@ -17,16 +17,21 @@ ghost use Rattle.mb_ble.specs.Stands.{Reads, Counts, MayRun, HasOpen, is_heady};
 ghost use Rattle.mb_stream.specs.ReaderLaw.{IsLongest, StatusNext, breaks, begins_run, answer};
 ghost use Rattle.mb_ble.specs.State.{Calm, is_between, content_owed};
 
+use crate::classes::{is_common, is_low, run_len, running_then};
 use mb_clock::Unwrap;
 use mb_din::DinReader;
-use mb_message::{Ev, Note, NoteKind, Seen};
+use mb_message::{Note, NoteKind, Seen};
 
-/// What the next byte of a content is.
+/// What the next byte of a content may be.
 #[derive(Clone, Copy, Debug)]
 pub enum Head {
+    /// Outside a packet.
     Between,
+    /// The packet's first byte.
     Header,
+    /// Behind a bad header: passed over.
     Skip,
+    /// A stamp, or a data byte.
     Inside,
     /// Behind a stamp, which has this offset.
     Stamped(u64),
@@ -34,6 +39,8 @@ pub enum Head {
     Spent,
 }
 
+/// Where a packet stands: the offset of the next byte, what that may be, the clock, the channel status that runs in the
+/// packet, and the reader of the byte stream in all packets.
 #[derive(Drop)]
 pub struct Content {
     offset: u64,
@@ -41,56 +48,6 @@ pub struct Content {
     clock: Unwrap,
     running: Option<u8>,
     din: DinReader,
-}
-
-/// The status that runs behind a byte.
-fn running_then(before: Option<u8>, byte: u8) -> Option<u8>
-    ensures { result ≡ running_then byte before }
-{
-    match byte {
-        0x80..=0xef => Some(byte),
-        0xf0 | 0xf4 | 0xf5 | 0xf7 => None,
-        _ => before,
-    }
-}
-
-/// Whether a System Common message was seen.
-#[tactic(auto, using(crate::proofs::Hands::run_common))]
-fn is_common(seen: Option<Seen>) -> bool
-    ensures { result ≡ is_common (answer seen.entry) }
-{
-    match seen {
-        None | Some(Seen::Note(_)) => false,
-        Some(Seen::Ev(ev)) => match ev {
-            Ev::Short(short) => short.status() >= 0xf0,
-            Ev::Rt(_) => false,
-            Ev::Open => false,
-            Ev::Run(_) => false,
-            Ev::End => false,
-            Ev::Abort => false,
-        },
-    }
-}
-
-/// How many data bytes stand at the front.
-fn run_len(bytes: &[u8]) -> usize
-    ensures front { take result bytes.now ≡ data_front bytes.now }
-    ensures longest { data_front (drop result bytes.now) ≡ [] }
-    ensures bound { result ≤ length bytes.now }
-{
-    let mut len = 0;
-    while len < bytes.len() && bytes[len] < 0x80 {
-        len += 1;
-    }
-    len
-}
-
-/// Whether a data byte comes first.
-fn is_low(piece: &[u8]) -> bool
-    requires { 0 < length piece.now }
-    ensures { (b : ℕ) (bs : List ℕ) → piece.now ≡ b ∷ bs → nat_lt b 128 ≡ result }
-{
-    piece[0] < 0x80
 }
 
 impl Content {
@@ -195,13 +152,14 @@ impl Content {
         }))
     }
 
-    /// Hands a piece to the reader of groups.
+    /// Hands a piece to the byte stream's reader.
     fn hand<'a>(&mut self, piece: &mut &'a [u8]) -> Option<Seen<'a>>
         requires placed { self.old.din.offset ≤ self.old.offset }
         requires early { self.old.offset + length piece.old.now < 2 ^ 63 }
         ensures hands { Hands self.old.din self.new.din self.old.offset piece.old.now piece.new.now (answer result) }
         ensures rest { self.new ≡ record self.old { din = self.new.din } }
-        ensures front { (taken : List ℕ) × (piece.old.now ≡ taken ++ piece.new.now) × (self.new.din.offset ≡ self.old.offset + length taken) }
+        ensures front { (taken : List ℕ) × (piece.old.now ≡ taken ++ piece.new.now)
+            × (self.new.din.offset ≡ self.old.offset + length taken) }
         ensures some { OnSome result (answer result ≡ [] → ⊥) }
         ensures none { IfNone result (piece.new.now ≡ []) }
         ensures longest { IfSome result (IsLongest piece.new.now) }
@@ -209,13 +167,14 @@ impl Content {
         ensures before { breaks (answer result) ≡ true → StatusNext piece.new.now × Rests self.new.din }
         ensures few { length (told_signs (answer result)) ≤ length piece.old.now }
         ensures runs { begins_run (answer result) ≡ true → RunNext self.old.din piece.old.now }
-        ensures progress { OnSome result (2 * length piece.new.now + owed self.new.din < 2 * length piece.old.now + owed self.old.din) }
+        ensures progress { OnSome result (2 * length piece.new.now + owed self.new.din
+            < 2 * length piece.old.now + owed self.old.din) }
     {
         self.din.place(self.offset);
         self.din.next(piece)
     }
 
-    /// A byte was taken at which this was seen.
+    /// A byte was taken. Where a System Common message was told at it, the packet's channel status runs on.
     fn took(&mut self, byte: u8, common: bool)
         requires early { self.old.offset + 1 < 2 ^ 64 }
         requires runs { IfSome self.old.running (λ s. is_channel s ≡ true) }
@@ -234,7 +193,8 @@ impl Content {
 
     /// A content's end comes next: what it tells of a stamp.
     pub fn end_stamp<'a>(&mut self) -> Option<Seen<'a>>
-        ensures some { OnSome result ((at : ℕ) × (self.old.head ≡ AtStamped at) × (answer result ≡ Notes at LoneStampKind ∷ []) × (self.new ≡ record self.old { head = AtSpent })) }
+        ensures some { OnSome result ((at : ℕ) × (self.old.head ≡ AtStamped at)
+            × (answer result ≡ Notes at LoneStampKind ∷ []) × (self.new ≡ record self.old { head = AtSpent })) }
         ensures none { IfNone result ((self.new ≡ self.old) × ((at : ℕ) → self.old.head ≡ AtStamped at → ⊥)) }
         ensures unbroken { breaks (answer result) ≡ false }
         ensures silent { told_signs (answer result) ≡ [] }
@@ -273,7 +233,8 @@ impl Content {
         requires some { 0 < length piece.old.now }
         ensures reads { Reads self.old self.new piece.old.now piece.new.now (answer result) }
         ensures counts { Counts self.old self.new piece.old.now piece.new.now }
-        ensures falls { 2 * length piece.new.now + content_owed self.new < 2 * length piece.old.now + content_owed self.old }
+        ensures falls { 2 * length piece.new.now + content_owed self.new
+            < 2 * length piece.old.now + content_owed self.old }
         ensures some { OnSome result (answer result ≡ [] → ⊥) }
         ensures unbroken { breaks (answer result) ≡ false }
         ensures silent { told_signs (answer result) ≡ [] }
@@ -296,7 +257,8 @@ impl Content {
         requires some { 0 < length piece.old.now }
         ensures reads { Reads self.old self.new piece.old.now piece.new.now [] }
         ensures counts { Counts self.old self.new piece.old.now piece.new.now }
-        ensures falls { 2 * length piece.new.now + content_owed self.new < 2 * length piece.old.now + content_owed self.old }
+        ensures falls { 2 * length piece.new.now + content_owed self.new
+            < 2 * length piece.old.now + content_owed self.old }
         ensures less { length piece.new.now < length piece.old.now }
     {
         if let Some((byte, rest)) = piece.split_first() {
@@ -311,13 +273,17 @@ impl Content {
         requires early { self.old.offset + length piece.old.now < 2 ^ 63 }
         requires runs { IfSome self.old.running (λ s. is_channel s ≡ true) }
         requires head { is_heady self.old.head ≡ false }
-        requires inside { (b : ℕ) (bs : List ℕ) → piece.old.now ≡ b ∷ bs → self.old.head ≡ AtInside → nat_lt b 128 ≡ true }
-        requires lone { (at b : ℕ) (bs : List ℕ) → piece.old.now ≡ b ∷ bs → self.old.head ≡ AtStamped at → nat_lt b 128 ≡ true → MayRun self.old.din true }
-        requires shut { (b : ℕ) (bs : List ℕ) → piece.old.now ≡ b ∷ bs → nat_lt b 128 ≡ true → open_now self.old.din ≡ false }
+        requires inside { (b : ℕ) (bs : List ℕ) → piece.old.now ≡ b ∷ bs → self.old.head ≡ AtInside →
+            nat_lt b 128 ≡ true }
+        requires lone { (at b : ℕ) (bs : List ℕ) → piece.old.now ≡ b ∷ bs → self.old.head ≡ AtStamped at →
+            nat_lt b 128 ≡ true → MayRun self.old.din true }
+        requires shut { (b : ℕ) (bs : List ℕ) → piece.old.now ≡ b ∷ bs → nat_lt b 128 ≡ true →
+            open_now self.old.din ≡ false }
         requires some { 0 < length piece.old.now }
         ensures reads { Reads self.old self.new piece.old.now piece.new.now (answer result) }
         ensures counts { Counts self.old self.new piece.old.now piece.new.now }
-        ensures falls { 2 * length piece.new.now + content_owed self.new < 2 * length piece.old.now + content_owed self.old }
+        ensures falls { 2 * length piece.new.now + content_owed self.new
+            < 2 * length piece.old.now + content_owed self.old }
         ensures some { OnSome result (answer result ≡ [] → ⊥) }
         ensures before { breaks (answer result) ≡ true → StatusNext piece.new.now × Rests self.new.din }
         ensures few { length (told_signs (answer result)) ≤ length piece.old.now }
@@ -348,18 +314,20 @@ impl Content {
         }
     }
 
-    /// Reads the data bytes at the front, of an open SysEx.
+    /// Reads the data bytes at the front, of an open SysEx: the longest run that stands there.
     fn read_run<'a>(&mut self, piece: &mut &'a [u8]) -> Option<Seen<'a>>
         requires placed { self.old.din.offset ≤ self.old.offset }
         requires early { self.old.offset + length piece.old.now < 2 ^ 63 }
         requires head { is_heady self.old.head ≡ false }
         requires low { (b : ℕ) (bs : List ℕ) → piece.old.now ≡ b ∷ bs → nat_lt b 128 ≡ true }
-        requires lone { (at b : ℕ) (bs : List ℕ) → piece.old.now ≡ b ∷ bs → self.old.head ≡ AtStamped at → nat_lt b 128 ≡ true → MayRun self.old.din true }
+        requires lone { (at b : ℕ) (bs : List ℕ) → piece.old.now ≡ b ∷ bs → self.old.head ≡ AtStamped at →
+            nat_lt b 128 ≡ true → MayRun self.old.din true }
         requires open { HasOpen self.old.din true }
         requires some { 0 < length piece.old.now }
         ensures reads { Reads self.old self.new piece.old.now piece.new.now (answer result) }
         ensures counts { Counts self.old self.new piece.old.now piece.new.now }
-        ensures falls { 2 * length piece.new.now + content_owed self.new < 2 * length piece.old.now + content_owed self.old }
+        ensures falls { 2 * length piece.new.now + content_owed self.new
+            < 2 * length piece.old.now + content_owed self.old }
         ensures some { OnSome result (answer result ≡ [] → ⊥) }
         ensures before { breaks (answer result) ≡ true → StatusNext piece.new.now × Rests self.new.din }
         ensures few { length (told_signs (answer result)) ≤ length piece.old.now }
@@ -384,7 +352,8 @@ impl Content {
         requires some { 0 < length piece.old.now }
         ensures reads { Reads self.old self.new piece.old.now piece.new.now (answer result) }
         ensures counts { Counts self.old self.new piece.old.now piece.new.now }
-        ensures falls { 2 * length piece.new.now + content_owed self.new < 2 * length piece.old.now + content_owed self.old }
+        ensures falls { 2 * length piece.new.now + content_owed self.new
+            < 2 * length piece.old.now + content_owed self.old }
         ensures some { OnSome result (answer result ≡ [] → ⊥) }
         ensures before { breaks (answer result) ≡ true → StatusNext piece.new.now × Rests self.new.din }
         ensures few { length (told_signs (answer result)) ≤ length piece.old.now }

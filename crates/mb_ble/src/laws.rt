@@ -16,16 +16,19 @@ ghost use Rattle.mb_ble.specs.Written.{Spelled, IsPacketsOf, packets, ble_live, 
 /// The packets of what stands between two flushes are one list.
 pub fn one_list_of_packets()
     ensures some { (size : ℕ) (run : List Spelled) → IsPacketsOf size run (packets size run) }
-    ensures only { (size : ℕ) (run : List Spelled) (ps : List (List Spelled)) → IsPacketsOf size run ps → ps ≡ packets size run }
+    ensures only { (size : ℕ) (run : List Spelled) (ps : List (List Spelled)) → IsPacketsOf size run ps →
+        ps ≡ packets size run }
 {}
 
 /// What is written as it comes, and at last the packet under way.
 pub fn ble_writing()
     ensures live { (size : ℕ) (puts : List Put) → ble_live size puts ≡ live size puts }
-    ensures all { (size : ℕ) (puts : List Put) → ble_written size puts ≡ ble_live size puts ++ flushed (under_way size puts) }
+    ensures all { (size : ℕ) (puts : List Put) →
+        ble_written size puts ≡ ble_live size puts ++ flushed (under_way size puts) }
 {}
 
-/// What is held back is at most one packet: what is written so far is all that is written of what came before its marks.
+/// What is held back is at most one packet: what is written so far is all that is written of what came before its
+/// marks.
 pub fn one_packet_is_held_back()
     ensures { (size : ℕ) (puts : List Put) → 5 ≤ size → HeldBack size puts }
 {}
@@ -54,8 +57,8 @@ pub fn ble_reading_suits()
     ensures few { (bytes : List ℕ) → length (signs_of (ble_reading bytes)) ≤ 2 * length bytes }
 {}
 
-/// What is read of written packets means what the marks mean, is at most one mark more, and has no note: at every size, whatever
-/// the moments and the flushes are.
+/// What is read of written packets means what the marks mean, is at most one mark more, and has no note: at every size,
+/// whatever the moments and the flushes are.
 pub fn ble_carries()
     ensures means { (size : ℕ) (puts : List Put) → suited (signs_in puts) ≡ true → AreValid (signs_in puts) →
         denotation (signs_of (ble_reading (ble_written size puts))) ≡ denotation (signs_in puts) }

@@ -5,12 +5,14 @@
 //! grows, and they refuse nothing.
 #![tactic(auto)]
 
+mod classes;
 mod content;
 pub mod laws;
-mod packet;
 mod position;
 mod reader;
+mod spelling;
 mod step;
+mod under_way;
 mod writer;
 
 pub use reader::BleReader;

@@ -160,7 +160,8 @@ impl Position {
         ensures all_told { IfNone result (BleAllTold self.old input.old.now) }
         ensures offset { ble_offset self.new + length input.new.now ≡ ble_offset self.old + length input.old.now }
         ensures longest { IfSome result (IsLongest (take (room_of self.new.frames) input.new.now)) }
-        ensures before { breaks (answer result) ≡ true → BrokenNext self.new input.new.now × Rests self.new.content.din }
+        ensures before { breaks (answer result) ≡ true →
+            BrokenNext self.new input.new.now × Rests self.new.content.din }
         ensures few { length (told_signs (answer result)) ≤ length input.old.now }
         ensures progress { OnSome result (2 * length input.new.now + ble_owed self.new <
             2 * length input.old.now + ble_owed self.old) }

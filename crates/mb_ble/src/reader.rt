@@ -16,7 +16,8 @@ use crate::step::{BleStep, step_of};
 use mb_frames::Frames;
 use std::marker::Model;
 
-/// Reads a recording of BLE-MIDI packets in frames that comes in pieces: its stream, each mark and note with its moment.
+/// Reads a recording of BLE-MIDI packets in frames that comes in pieces: its stream, each mark and note with its
+/// moment.
 #[derive(Drop)]
 pub struct BleReader {
     position: Position,
@@ -49,9 +50,10 @@ impl BleReader {
     }
 
     /// The next mark or note of the bytes that were taken and of the input, which it takes from the front of the input,
-    /// with its moment: that of the last stamp. What a byte makes known of earlier ones is told while it still stands in
-    /// the input, and before anything of it is kept; what the end of a packet makes known, before the byte behind it.
-    /// `None` comes where the input is used up and all of it is told. A run is lent from the input, and is never empty.
+    /// with its moment: that of the last stamp. What a byte makes known of earlier ones is told while it still stands
+    /// in the input, and before anything of it is kept; what the end of a packet makes known, before the byte behind
+    /// it. `None` comes where the input is used up and all of it is told. A run is lent from the input, and is never
+    /// empty.
     ///
     /// A recording has at most half as many stamps as bytes, and a stamp adds at most 8,191 ms. So below 2^51 + 2^14
     /// bytes each moment is below 2^63.
@@ -94,10 +96,11 @@ impl BleReader {
         self.position.content.moment()
     }
 
-    /// What only the end of the recording makes known, at the last moment: a message that was begun and not finished, or
-    /// an open SysEx. No message is then begun and no SysEx open: a second call answers `None`.
+    /// What only the end of the recording makes known, at the last moment: a message that was begun and not finished,
+    /// or an open SysEx. No message is then begun and no SysEx open: a second call answers `None`.
     pub fn finish(&mut self) -> Option<BleStep<'static>>
-        ensures told { (bytes : List ℕ) → BleStands self.old bytes (ble_known bytes) → ble_answer result ≡ ble_end bytes }
+        ensures told { (bytes : List ℕ) → BleStands self.old bytes (ble_known bytes) →
+            ble_answer result ≡ ble_end bytes }
         ensures moment { IfSome result (λ s. s.moment ≡ ble_moment self.old) }
         ensures some { OnSome result (ble_answer result ≡ [] → ⊥) }
         ensures when { IsSome result ↔ (free_now (ble_reader self.old) ≡ false) }

@@ -1,5 +1,7 @@
 //! The writer of BLE-MIDI packets.
 
+ghost use Rattle.std.specs.Prelude.{◌<◌};
+
 use mb_ble::{BleWriter, MORE_ROOM};
 use mb_message::{Buf, Ev, Rt, Short};
 

@@ -2,7 +2,7 @@ use Rattle.std.proofs.Common.{◌≡◌, ◌+◌, ◌*◌, ◌≤◌, ◌++◌, 
 use Rattle.arrayvec.specs.ArrayVec.{array_vec_len}
 use Rattle.mb_message.specs.Signs.{ByteSign}
 use Rattle.mb_ble.specs.UnderWay.{after_all, given_all}
-use Rattle.mb_ble.proofs.packet.UnderWay.put_run.Given as goal
+use Rattle.mb_ble.proofs.under_way.UnderWay.put_run.Given as goal
 
 -- of what is left
 abbrev pub invariant-bytes : goal.invariant-bytes
