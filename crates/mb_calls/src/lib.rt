@@ -3,6 +3,10 @@
 #![tactic(auto)]
 
 #[cfg(test)]
+mod ble_reader;
+#[cfg(test)]
+mod ble_writer;
+#[cfg(test)]
 mod clock;
 #[cfg(test)]
 mod denote;

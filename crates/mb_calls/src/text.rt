@@ -29,7 +29,11 @@ pub fn put_answer(cable: u8, answer: Option<Seen<'_>>, text: &mut Text) {
 
 /// Appends the lines of what was told of a cable.
 pub fn put_seen(cable: u8, seen: Seen<'_>, runs: Runs, text: &mut Text) {
-    let number = u64::from(cable);
+    put_numbered(u64::from(cable), seen, runs, text);
+}
+
+/// The same with a number of any size ahead of each mark.
+pub fn put_numbered(number: u64, seen: Seen<'_>, runs: Runs, text: &mut Text) {
     match seen {
         Seen::Note(note) => put_note(note, text),
         Seen::Ev(Ev::Short(short)) => put_mark(number, Mark::Short(short), text),

@@ -190,6 +190,8 @@ impl DinReader {
             answer result ≡ at_end (last_of entries) }
         ensures some { OnSome result (answer result ≡ [] → ⊥) }
         ensures when { IsSome result ↔ (free_now self.old ≡ false) }
+        // A message that was begun is remarked, and tells no mark.
+        ensures silent { open_now self.old ≡ false → told_signs (answer result) ≡ [] }
         ensures as_fresh { self.new ≡ record fresh { offset = self.old.offset } }
         ensures falls { OnSome result (owed self.new < owed self.old) }
         ensures stands { Stands self.new [] [] }

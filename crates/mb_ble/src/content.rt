@@ -1,0 +1,389 @@
+//! The content of a packet, byte by byte: its header, stamps, and what the byte stream in it tells.
+
+ghost use Rattle.std.specs.Prelude.{◌≡◌, ℕ, List, [], ◌∷◌, ◌++◌, ◌+◌, ◌*◌, ◌%◌, ◌^◌, ◌<◌, ◌≤◌, ◌⊎◌, Option, Some, None, false, true, length, IfNone, IfSome, OnSome, IsSome, ◌↔◌, nat_lt, if◌then◌else◌, take, drop};
+ghost use Rattle.mb_clock.specs.Clock.{clock_of};
+ghost use Rattle.mb_din.specs.Reader.{Stands, RunNext};
+ghost use Rattle.mb_din.specs.State.{fresh, free_now, open_now, owed, Rests};
+ghost use Rattle.mb_din.specs.Turn.{data_front};
+ghost use Rattle.mb_message.specs.Bytes.{is_channel};
+ghost use Rattle.mb_stream.specs.Groups.{last_of, is_sysex};
+ghost use Rattle.mb_stream.specs.Payload.{Entry};
+ghost use Rattle.mb_stream.specs.Reading.{so_far, told_signs};
+ghost use Rattle.mb_stream.specs.Told.{Notes, Known, at_end};
+ghost use Rattle.mb_message.specs.declared.note.NoteKind.TheVariants.{LoneStamp as LoneStampKind};
+ghost use Rattle.mb_ble.specs.declared.content.Head.TheVariants.{Between as AtBetween, Header as AtHeader, Skip as AtSkip, Inside as AtInside, Stamped as AtStamped, Spent as AtSpent};
+ghost use Rattle.mb_ble.specs.Content.{empty_told, headed, headed_told, stamped_at, advanced, running_then, is_common, Hands, Took, EndedBy};
+ghost use Rattle.mb_ble.specs.Stands.{Reads, Counts, MayRun, HasOpen, is_heady};
+ghost use Rattle.mb_stream.specs.ReaderLaw.{IsLongest, StatusNext, breaks, begins_run, answer};
+ghost use Rattle.mb_ble.specs.State.{Calm, is_between, content_owed};
+
+use crate::classes::{is_common, is_low, run_len, running_then};
+use mb_clock::Unwrap;
+use mb_din::DinReader;
+use mb_message::{Note, NoteKind, Seen};
+
+/// What the next byte of a content may be.
+#[derive(Clone, Copy, Debug)]
+pub enum Head {
+    /// Outside a packet.
+    Between,
+    /// The packet's first byte.
+    Header,
+    /// Behind a bad header: passed over.
+    Skip,
+    /// A stamp, or a data byte.
+    Inside,
+    /// Behind a stamp, which has this offset.
+    Stamped(u64),
+    /// Behind a stamp whose note was told.
+    Spent,
+}
+
+/// Where a packet stands: the offset of the next byte, what that may be, the clock, the channel status that runs in the
+/// packet, and the reader of the byte stream in all packets.
+#[derive(Drop)]
+pub struct Content {
+    offset: u64,
+    head: Head,
+    clock: Unwrap,
+    running: Option<u8>,
+    din: DinReader,
+}
+
+impl Content {
+    pub fn new() -> Content
+        ensures offset { result.offset ≡ 0 }
+        ensures head { result.head ≡ AtBetween }
+        ensures clock { result.clock ≡ clock_of [] }
+        ensures running { result.running ≡ None }
+        ensures din { Stands result.din [] [] }
+        ensures low { result.din.offset ≡ 0 }
+    {
+        Content {
+            offset: 0,
+            head: Head::Between,
+            clock: Unwrap::new(),
+            running: None,
+            din: DinReader::new(),
+        }
+    }
+
+    pub fn moment(&self) -> u64
+        ensures { result ≡ self.now.clock.moment }
+    {
+        self.clock.moment()
+    }
+
+    /// The first byte of a length was taken with the second.
+    pub fn enter<'a>(&mut self, len: u16) -> Option<Seen<'a>>
+        requires { self.old.offset + 2 < 2 ^ 64 }
+        ensures state { self.new ≡ record self.old { offset = self.old.offset + 2; head = AtHeader; running = None } }
+        ensures told { answer result ≡ empty_told self.old.offset len }
+        ensures owed { content_owed self.new ≤ content_owed self.old }
+        ensures some { OnSome result (answer result ≡ [] → ⊥) }
+        ensures unbroken { breaks (answer result) ≡ false }
+        ensures silent { told_signs (answer result) ≡ [] }
+        ensures longest { (left : List ℕ) → IfSome result (IsLongest left) }
+    {
+        let at = self.offset;
+        self.offset += 2;
+        self.head = Head::Header;
+        self.running = None;
+        if len == 0 {
+            return Some(Seen::Note(Note {
+                at,
+                kind: NoteKind::EmptyPacket,
+            }));
+        }
+        None
+    }
+
+    /// A byte at which no message is read.
+    fn head_byte<'a>(&mut self, byte: u8) -> Option<Seen<'a>>
+        requires { self.old.offset + 1 < 2 ^ 64 }
+        ensures state { self.new ≡ headed self.old byte }
+        ensures told { answer result ≡ headed_told self.old byte }
+        ensures some { OnSome result (answer result ≡ [] → ⊥) }
+        ensures unbroken { breaks (answer result) ≡ false }
+        ensures silent { told_signs (answer result) ≡ [] }
+        ensures longest { (left : List ℕ) → IfSome result (IsLongest left) }
+    {
+        let at = self.offset;
+        self.offset += 1;
+        if !matches!(self.head, Head::Header) {
+            return None;
+        }
+        if byte < 0x80 {
+            self.head = Head::Skip;
+            return Some(Seen::Note(Note {
+                at,
+                kind: NoteKind::BadHeader,
+            }));
+        }
+        self.head = Head::Inside;
+        self.clock.packet(byte % 64);
+        None
+    }
+
+    fn take_stamp(&mut self, byte: u8)
+        requires early { self.old.offset + 1 < 2 ^ 64 }
+        requires moments { self.old.clock.moment < 2 ^ 63 }
+        requires stamp { nat_lt byte 128 ≡ false }
+        ensures { self.new ≡ stamped_at self.old byte }
+    {
+        self.clock.stamp(byte - 0x80);
+        self.head = Head::Stamped(self.offset);
+        self.offset += 1;
+    }
+
+    /// The note of a stamp.
+    fn spend<'a>(&mut self, at: u64) -> Option<Seen<'a>>
+        ensures state { self.new ≡ record self.old { head = AtSpent } }
+        ensures told { answer result ≡ Notes at LoneStampKind ∷ [] }
+        ensures some { OnSome result (answer result ≡ [] → ⊥) }
+        ensures unbroken { breaks (answer result) ≡ false }
+        ensures silent { told_signs (answer result) ≡ [] }
+        ensures longest { (left : List ℕ) → IfSome result (IsLongest left) }
+    {
+        self.head = Head::Spent;
+        Some(Seen::Note(Note {
+            at,
+            kind: NoteKind::LoneStamp,
+        }))
+    }
+
+    /// Hands a piece to the byte stream's reader.
+    fn hand<'a>(&mut self, piece: &mut &'a [u8]) -> Option<Seen<'a>>
+        requires placed { self.old.din.offset ≤ self.old.offset }
+        requires early { self.old.offset + length piece.old.now < 2 ^ 63 }
+        ensures hands { Hands self.old.din self.new.din self.old.offset piece.old.now piece.new.now (answer result) }
+        ensures rest { self.new ≡ record self.old { din = self.new.din } }
+        ensures front { (taken : List ℕ) × (piece.old.now ≡ taken ++ piece.new.now)
+            × (self.new.din.offset ≡ self.old.offset + length taken) }
+        ensures some { OnSome result (answer result ≡ [] → ⊥) }
+        ensures none { IfNone result (piece.new.now ≡ []) }
+        ensures longest { IfSome result (IsLongest piece.new.now) }
+        ensures free { is_common (answer result) ≡ true → free_now self.new.din ≡ true }
+        ensures before { breaks (answer result) ≡ true → StatusNext piece.new.now × Rests self.new.din }
+        ensures few { length (told_signs (answer result)) ≤ length piece.old.now }
+        ensures runs { begins_run (answer result) ≡ true → RunNext self.old.din piece.old.now }
+        ensures progress { OnSome result (2 * length piece.new.now + owed self.new.din
+            < 2 * length piece.old.now + owed self.old.din) }
+    {
+        self.din.place(self.offset);
+        self.din.next(piece)
+    }
+
+    /// A byte was taken. Where a System Common message was told at it, the packet's channel status runs on.
+    fn took(&mut self, byte: u8, common: bool)
+        requires early { self.old.offset + 1 < 2 ^ 64 }
+        requires runs { IfSome self.old.running (λ s. is_channel s ≡ true) }
+        requires free { common ≡ true → free_now self.old.din ≡ true }
+        ensures took { Took self.old self.new byte common }
+    {
+        self.offset += 1;
+        self.head = Head::Inside;
+        if let Some(status) = self.running
+            && common
+        {
+            self.din.resume(status);
+        }
+        self.running = running_then(self.running, byte);
+    }
+
+    /// A content's end comes next: what it tells of a stamp.
+    pub fn end_stamp<'a>(&mut self) -> Option<Seen<'a>>
+        ensures some { OnSome result ((at : ℕ) × (self.old.head ≡ AtStamped at)
+            × (answer result ≡ Notes at LoneStampKind ∷ []) × (self.new ≡ record self.old { head = AtSpent })) }
+        ensures none { IfNone result ((self.new ≡ self.old) × ((at : ℕ) → self.old.head ≡ AtStamped at → ⊥)) }
+        ensures unbroken { breaks (answer result) ≡ false }
+        ensures silent { told_signs (answer result) ≡ [] }
+        ensures longest { (left : List ℕ) → IfSome result (IsLongest left) }
+        ensures falls { OnSome result (content_owed self.new < content_owed self.old) }
+    {
+        if let Head::Stamped(at) = self.head {
+            return self.spend(at);
+        }
+        None
+    }
+
+    /// Takes a content's end.
+    pub fn end_groups<'a>(&mut self) -> Option<Seen<'a>>
+        ensures ended { EndedBy self.old self.new (answer result) }
+        ensures silent { told_signs (answer result) ≡ [] }
+        ensures rests { OnSome result (Rests self.new.din) }
+        ensures clock { self.new.clock ≡ self.old.clock }
+        ensures some { OnSome result (answer result ≡ [] → ⊥) }
+        ensures falls { OnSome result (content_owed self.new < content_owed self.old) }
+        ensures kept { content_owed self.new ≤ content_owed self.old }
+    {
+        self.head = Head::Between;
+        self.running = None;
+        if self.din.in_sysex() {
+            return None;
+        }
+        self.din.finish()
+    }
+
+    /// Reads a byte at which no message is read.
+    fn read_head<'a>(&mut self, piece: &mut &'a [u8]) -> Option<Seen<'a>>
+        requires early { self.old.offset + length piece.old.now < 2 ^ 63 }
+        requires head { is_heady self.old.head ≡ true }
+        requires inside { is_between self.old.head ≡ false }
+        requires some { 0 < length piece.old.now }
+        ensures reads { Reads self.old self.new piece.old.now piece.new.now (answer result) }
+        ensures counts { Counts self.old self.new piece.old.now piece.new.now }
+        ensures falls { 2 * length piece.new.now + content_owed self.new
+            < 2 * length piece.old.now + content_owed self.old }
+        ensures some { OnSome result (answer result ≡ [] → ⊥) }
+        ensures unbroken { breaks (answer result) ≡ false }
+        ensures silent { told_signs (answer result) ≡ [] }
+        ensures longest { (left : List ℕ) → IfSome result (IsLongest left) }
+        ensures none { IfNone result (length piece.new.now < length piece.old.now) }
+    {
+        let Some((byte, rest)) = piece.split_first() else {
+            return None;
+        };
+        *piece = rest;
+        self.head_byte(*byte)
+    }
+
+    /// Reads a stamp.
+    fn read_stamp<'a>(&mut self, piece: &mut &'a [u8])
+        requires early { self.old.offset + length piece.old.now < 2 ^ 63 }
+        requires moments { self.old.clock.moment < 2 ^ 63 }
+        requires head { self.old.head ≡ AtInside }
+        requires stamp { (b : ℕ) (bs : List ℕ) → piece.old.now ≡ b ∷ bs → nat_lt b 128 ≡ false }
+        requires some { 0 < length piece.old.now }
+        ensures reads { Reads self.old self.new piece.old.now piece.new.now [] }
+        ensures counts { Counts self.old self.new piece.old.now piece.new.now }
+        ensures falls { 2 * length piece.new.now + content_owed self.new
+            < 2 * length piece.old.now + content_owed self.old }
+        ensures less { length piece.new.now < length piece.old.now }
+    {
+        if let Some((byte, rest)) = piece.split_first() {
+            *piece = rest;
+            self.take_stamp(*byte);
+        }
+    }
+
+    /// Reads a byte of a message.
+    fn read_byte<'a>(&mut self, piece: &mut &'a [u8]) -> Option<Seen<'a>>
+        requires placed { self.old.din.offset ≤ self.old.offset }
+        requires early { self.old.offset + length piece.old.now < 2 ^ 63 }
+        requires runs { IfSome self.old.running (λ s. is_channel s ≡ true) }
+        requires head { is_heady self.old.head ≡ false }
+        requires inside { (b : ℕ) (bs : List ℕ) → piece.old.now ≡ b ∷ bs → self.old.head ≡ AtInside →
+            nat_lt b 128 ≡ true }
+        requires lone { (at b : ℕ) (bs : List ℕ) → piece.old.now ≡ b ∷ bs → self.old.head ≡ AtStamped at →
+            nat_lt b 128 ≡ true → MayRun self.old.din true }
+        requires shut { (b : ℕ) (bs : List ℕ) → piece.old.now ≡ b ∷ bs → nat_lt b 128 ≡ true →
+            open_now self.old.din ≡ false }
+        requires some { 0 < length piece.old.now }
+        ensures reads { Reads self.old self.new piece.old.now piece.new.now (answer result) }
+        ensures counts { Counts self.old self.new piece.old.now piece.new.now }
+        ensures falls { 2 * length piece.new.now + content_owed self.new
+            < 2 * length piece.old.now + content_owed self.old }
+        ensures some { OnSome result (answer result ≡ [] → ⊥) }
+        ensures before { breaks (answer result) ≡ true → StatusNext piece.new.now × Rests self.new.din }
+        ensures few { length (told_signs (answer result)) ≤ length piece.old.now }
+        ensures longest { IfSome result (IsLongest piece.new.now) }
+        ensures none { IfNone result (length piece.new.now < length piece.old.now) }
+    {
+        let Some((byte, rest)) = piece.split_first() else {
+            return None;
+        };
+        let byte = *byte;
+        let mut one = piece.split_at(1).0;
+        let seen = self.hand(&mut one);
+        if one.is_empty() {
+            *piece = rest;
+            self.took(byte, is_common(seen));
+        }
+        seen
+    }
+
+    /// Steps over data bytes.
+    fn advance(&mut self, count: u64)
+        requires { self.old.offset + count < 2 ^ 64 }
+        ensures { self.new ≡ advanced self.old count }
+    {
+        if count > 0 {
+            self.offset += count;
+            self.head = Head::Inside;
+        }
+    }
+
+    /// Reads the data bytes at the front, of an open SysEx: the longest run that stands there.
+    fn read_run<'a>(&mut self, piece: &mut &'a [u8]) -> Option<Seen<'a>>
+        requires placed { self.old.din.offset ≤ self.old.offset }
+        requires early { self.old.offset + length piece.old.now < 2 ^ 63 }
+        requires head { is_heady self.old.head ≡ false }
+        requires low { (b : ℕ) (bs : List ℕ) → piece.old.now ≡ b ∷ bs → nat_lt b 128 ≡ true }
+        requires lone { (at b : ℕ) (bs : List ℕ) → piece.old.now ≡ b ∷ bs → self.old.head ≡ AtStamped at →
+            nat_lt b 128 ≡ true → MayRun self.old.din true }
+        requires open { HasOpen self.old.din true }
+        requires some { 0 < length piece.old.now }
+        ensures reads { Reads self.old self.new piece.old.now piece.new.now (answer result) }
+        ensures counts { Counts self.old self.new piece.old.now piece.new.now }
+        ensures falls { 2 * length piece.new.now + content_owed self.new
+            < 2 * length piece.old.now + content_owed self.old }
+        ensures some { OnSome result (answer result ≡ [] → ⊥) }
+        ensures before { breaks (answer result) ≡ true → StatusNext piece.new.now × Rests self.new.din }
+        ensures few { length (told_signs (answer result)) ≤ length piece.old.now }
+        ensures none { IfNone result (length piece.new.now < length piece.old.now) }
+        ensures longest { IfSome result (IsLongest piece.new.now) }
+    {
+        let len = run_len(piece);
+        let mut run = piece.split_at(len).0;
+        let seen = self.hand(&mut run);
+        let used = len - run.len();
+        self.advance(used as u64);
+        *piece = piece.split_at(used).1;
+        seen
+    }
+
+    /// The next mark or note of a content's bytes.
+    pub fn read<'a>(&mut self, piece: &mut &'a [u8]) -> Option<Seen<'a>>
+        requires early { self.old.offset + length piece.old.now < 2 ^ 63 }
+        requires calm { Calm self.old }
+        requires inside { is_between self.old.head ≡ false }
+        requires moments { self.old.clock.moment < 2 ^ 63 }
+        requires some { 0 < length piece.old.now }
+        ensures reads { Reads self.old self.new piece.old.now piece.new.now (answer result) }
+        ensures counts { Counts self.old self.new piece.old.now piece.new.now }
+        ensures falls { 2 * length piece.new.now + content_owed self.new
+            < 2 * length piece.old.now + content_owed self.old }
+        ensures some { OnSome result (answer result ≡ [] → ⊥) }
+        ensures before { breaks (answer result) ≡ true → StatusNext piece.new.now × Rests self.new.din }
+        ensures few { length (told_signs (answer result)) ≤ length piece.old.now }
+        ensures longest { IfSome result (IsLongest piece.new.now) }
+        ensures none { IfNone result (length piece.new.now < length piece.old.now) }
+    {
+        let low = is_low(piece);
+        match self.head {
+            Head::Between | Head::Header | Head::Skip => self.read_head(piece),
+            Head::Inside if !low => {
+                self.read_stamp(piece);
+                None
+            }
+            Head::Stamped(at) if low && !self.din.may_run() => self.spend(at),
+            _ if low && self.din.in_sysex() => self.read_run(piece),
+            _ => self.read_byte(piece),
+        }
+    }
+
+    /// What only the end makes known.
+    pub fn finish(&mut self) -> Option<Seen<'static>>
+        ensures told { (entries : List Entry) → Stands self.old.din entries (so_far entries) →
+            answer result ≡ at_end (last_of entries) }
+        ensures state { self.new ≡ record self.old { running = None; din = self.new.din } }
+        ensures as_fresh { self.new.din ≡ record fresh { offset = self.old.din.offset } }
+        ensures stands { Stands self.new.din [] [] }
+        ensures some { OnSome result (answer result ≡ [] → ⊥) }
+        ensures when { IsSome result ↔ (free_now self.old.din ≡ false) }
+    {
+        self.running = None;
+        self.din.finish()
+    }
+}
