@@ -223,6 +223,21 @@ impl DinReader {
         is_running(self.progress)
     }
 
+    /// Whether no message is begun and no SysEx open: `resume` asks for that.
+    #[inline(always)]
+    pub fn is_free(&self) -> bool
+        ensures { result ≡ free_now self.now }
+    {
+        is_free(self.progress)
+    }
+
+    /// The offset of the next byte: `place` asks for one that isn't below it.
+    pub fn offset(&self) -> u64
+        ensures { result ≡ self.now.offset }
+    {
+        self.offset
+    }
+
     /// Whether a SysEx is open.
     #[inline(always)]
     pub fn in_sysex(&self) -> bool

@@ -5,7 +5,9 @@
 --   UsbStands now bytes told      a reader of all cables took these bytes and told this
 --   CableStands now bytes told    a reader of one cable did
 --   UsbTells, CableTells          what a call takes and tells
-use Rattle.std.specs.Prelude.{ℕ, ◌/◌, List, [], ◌∷◌, ◌++◌, map, flat_map, Option, Some, None, ◌==◌, nat_lt, if◌then◌else◌}
+--   without_cable c bytes         the recording with each packet of a cable empty
+--   UsbAnew, CableAnew            what a cable's end leaves
+use Rattle.std.specs.Prelude.{◌≡◌, ℕ, ◌*◌, ◌/◌, true, List, [], ◌∷◌, ◌++◌, map, flat_map, Option, Some, None, ◌==◌, nat_lt, if◌then◌else◌}
 use Rattle.mb_message.specs.declared.note.Note.{Note}
 use Rattle.mb_stream.specs.Told.{Told, Known}
 use Rattle.mb_stream.specs.Order.{in_order}
@@ -19,7 +21,7 @@ use Rattle.mb_ports.specs.OnePort.{HoldsOne}
 use Rattle.mb_usb.specs.declared.under.Under.{Under}
 use Rattle.mb_usb.specs.declared.under.Under.TheVariants.{Between}
 use Rattle.mb_usb.specs.declared.under.Packet.{Packet}
-use Rattle.mb_usb.specs.Reading.{packets, cable_payload, unit_note, usb_told}
+use Rattle.mb_usb.specs.Reading.{packets, cable_payload, unit_note, usb_told, usb_whole}
 use Rattle.mb_usb.specs.Under.{under_after, left_of, head_of, note_at}
 use Rattle.mb_usb.specs.State.{UsbState, CableState, reader_at}
 
@@ -86,3 +88,24 @@ CableTells was now input left answer =
 
 abbrev pub CableAllTold : CableState → List ℕ → Type 0
 CableAllTold was input = AllTold (cable_so_far was.cable) (CableStands was) input
+
+-- table 4-1: under code index number 0 a packet carries nothing
+abbrev pub emptied : (cable head : ℕ) → ℕ
+emptied cable head = if head / 16 == cable then cable * 16 else head
+
+abbrev pub without_cable : (cable : ℕ) → List ℕ → List ℕ
+without_cable cable [] = []
+without_cable cable (h ∷ a ∷ b ∷ c ∷ bs) = emptied cable h ∷ a ∷ b ∷ c ∷ without_cable cable bs
+without_cable cable (h ∷ bs) = emptied cable h ∷ bs
+
+-- A cable's end was told behind whole packets: from here on the reader is one that took the recording with that cable's
+-- packets empty, and told all of it.
+abbrev pub UsbAnew : (cable : ℕ) → (was now : UsbState) → Type 0
+UsbAnew cable was now =
+    (bytes : List ℕ) → UsbStands was bytes (all_cables_so_far bytes) → usb_whole bytes ≡ true →
+    UsbStands now (without_cable cable bytes) (all_cables_so_far (without_cable cable bytes))
+
+abbrev pub CableAnew : (was now : CableState) → Type 0
+CableAnew was now =
+    (bytes : List ℕ) → CableStands was bytes (cable_so_far was.cable bytes) → usb_whole bytes ≡ true →
+    CableStands now (without_cable was.cable bytes) (cable_so_far was.cable (without_cable was.cable bytes))

@@ -8,7 +8,7 @@ ghost use Rattle.mb_stream.specs.ReaderLaw.{answer, IsLongest, breaks, StatusNex
 ghost use Rattle.mb_usb.specs.Under.{left_of, taken_of};
 ghost use Rattle.mb_din.specs.State.{State, fresh, free_now, Rests};
 ghost use Rattle.mb_usb.specs.Reading.{cable_payload};
-ghost use Rattle.mb_usb.specs.Cables.{cable_so_far, CableHolds, CableStands, CableTells, CableAllTold};
+ghost use Rattle.mb_usb.specs.Cables.{cable_so_far, CableHolds, CableStands, CableTells, CableAllTold, CableAnew};
 ghost use Rattle.mb_usb.specs.State.{cable_packets, cable_offset, cable_taken, cable_to_come, cable_owed, owed_alone, IsBehind};
 
 use crate::carry::carry;
@@ -94,6 +94,10 @@ impl CableReader {
         ensures when { IsSome result ↔ (free_now self.old.reader ≡ false) }
         ensures as_fresh { self.new.reader ≡ record fresh { offset = self.old.reader.offset } }
         ensures packets { cable_packets self.new ≡ cable_packets self.old }
+
+        // Behind whole packets of which all was told, what `next` tells from here on: as where the cable carried nothing
+        // yet.
+        ensures anew { CableAnew self.old self.new }
     {
         self.din.finish()
     }

@@ -11,7 +11,7 @@ ghost use Rattle.mb_stream.specs.Told.{at_end};
 ghost use Rattle.mb_stream.specs.Reading.{told_signs};
 ghost use Rattle.mb_ports.specs.Events.{Ported};
 ghost use Rattle.mb_usb.specs.Reading.{cable_payload};
-ghost use Rattle.mb_usb.specs.Cables.{all_cables_so_far, UsbHolds, UsbStands, UsbTells, UsbAllTold};
+ghost use Rattle.mb_usb.specs.Cables.{all_cables_so_far, UsbHolds, UsbStands, UsbTells, UsbAllTold, UsbAnew};
 ghost use Rattle.mb_usb.specs.State.{UsbState, usb_packets, usb_offset, usb_taken, usb_to_come, usb_reader, usb_owed, owed_of, AreBehind, reader_at};
 
 use crate::carry::carry;
@@ -90,14 +90,21 @@ impl UsbReader {
         requires { cable < 16 }
         ensures told { (bytes : List ℕ) → UsbStands self.old bytes (all_cables_so_far bytes) →
             answer result ≡ at_end (last_of (cable_payload cable bytes)) }
+
         // The same where all was told of the bytes, and other cables were finished since.
         ensures in_turn { (was : UsbState) → usb_reader self.old cable ≡ usb_reader was cable →
-            (bytes : List ℕ) → UsbStands was bytes (all_cables_so_far bytes) → answer result ≡ at_end (last_of (cable_payload cable bytes)) }
+            (bytes : List ℕ) → UsbStands was bytes (all_cables_so_far bytes) →
+            answer result ≡ at_end (last_of (cable_payload cable bytes)) }
+
         ensures some { OnSome result (answer result ≡ [] → ⊥) }
         ensures when { IsSome result ↔ (free_now (usb_reader self.old cable) ≡ false) }
         ensures as_fresh { usb_reader self.new cable ≡ record fresh { offset = (usb_reader self.old cable).offset } }
         ensures others { (c : ℕ) → c ≢ cable → usb_reader self.new c ≡ usb_reader self.old c }
         ensures packets { usb_packets self.new ≡ usb_packets self.old }
+
+        // Behind whole packets of which all was told, what `next` tells from here on: of that cable, as where it carried
+        // nothing yet.
+        ensures anew { UsbAnew cable self.old self.new }
     {
         self.dins[cable as usize].finish()
     }
