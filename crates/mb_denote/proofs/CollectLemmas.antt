@@ -1,10 +1,12 @@
 -- What a collector stands for, mark by mark.
-use Rattle.std.proofs.Common.{◌≡◌, ℕ, Bool, true, false, List, [], ◌∷◌, ◌++◌, Option, Some, None, is_some, refl, sym, ap, ◌∙◌}
+use Rattle.std.proofs.Common.{◌≡◌, ℕ, Bool, true, false, List, [], ◌∷◌, ◌++◌, Option, Some, None, is_some, refl, sym}
+use Rattle.std.proofs.Common.{ap, ◌∙◌}
 use mathlib.Core.List.{append_assoc}
 use Rattle.std.proofs.lemmas.List.{append-nil}
 use Rattle.std.proofs.lemmas.Bool.{false≢true}
 use Rattle.mb_message.specs.Signs.{Sign, ShortSign, RtSign, OpenSign, ByteSign, EndSign, AbortSign, suits_sign}
-use Rattle.mb_stream.specs.Denotation.{Meant, Message, Syx, Broken, Timed, items_from, realtimes_from, Denotation, denotation, left_open}
+use Rattle.mb_stream.specs.Denotation.{Meant, Message, Syx, Broken, Timed, items_from, realtimes_from, Denotation}
+use Rattle.mb_stream.specs.Denotation.{denotation, left_open}
 use Rattle.mb_stream.proofs.StandingLemmas.{is_open-push, open_after}
 use Rattle.mb_denote.specs.Collected.{Collected, Stands, in_sysex}
 use Rattle.mb_denote.specs.Collecting.{with_mark}

@@ -1,7 +1,8 @@
 //! Laws of the definitions. Each function does nothing; what is proved is its contract.
 
 ghost use Rattle.std.specs.Prelude.{◌≡◌, ℕ, List, ◌++◌, false, flat_map};
-ghost use Rattle.mb_frames.specs.Frames.{AreBytes, Cut, FramePart, IsUnfinished, frame, frame_parts, parts, unfinished_parts};
+ghost use Rattle.mb_frames.specs.Frames.{AreBytes, Cut, FramePart, IsUnfinished, frame, frame_parts, parts};
+ghost use Rattle.mb_frames.specs.Frames.{unfinished_parts};
 ghost use Rattle.mb_frames.specs.Counting.{counted_parts};
 ghost use Rattle.mb_frames.specs.Reading.{IsWhole, Place, Stands, from, is_at_end};
 

@@ -1,5 +1,5 @@
--- A reader of one port alone, from the law of several: with one port, what was told is a front of what is known if its parts
--- without their ports are.
+-- A reader of one port alone, from the law of several: with one port, what was told is a front of what is known if its
+-- parts without their ports are.
 use Rattle.std.proofs.Common.{◌≡◌, ℕ, ◌+◌, ◌-◌, ◌<◌, Bool, true, false, if◌then◌else◌, Option, Some, List, [], ◌∷◌, ◌++◌, length, map, refl, sym, ◌∙◌, ap, ap₂, subst, arith, append_assoc, append-nil}
 use Rattle.std.proofs.lemmas.List.{append_cancel_left}
 use Rattle.mb_message.specs.declared.note.Note.{Note}

@@ -258,8 +258,8 @@ finish-stands m n lows o u due rs bytes h c below =
     sym (ap (port_payload c) h.events_are ∙ (port_payload-append c h.taken (remarked (o - 1) due) ∙ (ap (λ z. port_payload c h.taken ++ z) (port_payload-notes c (o - 1) due) ∙ append-nil (port_payload c h.taken)))) in
     subst (λ es. Stands (rs c) es (so_far es)) payload (every-stands n rs h.taken (all_known m n bytes) h.stand rests.0 c below)
 
--- One port's reader begins anew where all was told: it stands for a recording of the same length and with the same packet
--- under way, in which that port carries nothing and each other what it carried.
+-- One port's reader begins anew where all was told: it stands for a recording of the same length and with the same
+-- packet under way, in which that port carries nothing and each other what it carried.
 pub anew-holds : {U : Type 0} (m : Machine U) (n : ℕ) → LowPorts m n → (o : ℕ) (u : U) (due : List Note) (rs now : ℕ → State) (bytes instead : List ℕ) (p : ℕ) → p < n →
     Holds m n (whole o u due rs) bytes (all_known m n bytes) → length instead ≡ length bytes → under_from m m.start instead ≡ under_from m m.start bytes →
     port_payload p (events m instead) ≡ [] → ((c : ℕ) → c < n → (c ≡ p → ⊥) → port_payload c (events m instead) ≡ port_payload c (events m bytes)) →

@@ -15,11 +15,11 @@ use Rattle.mb_ports.proofs.ReaderLaw.{anew-holds}
 use Rattle.mb_ports.proofs.OnePortLaw.{anew-one}
 use Rattle.mb_usb.specs.declared.under.Under.{Under}
 use Rattle.mb_usb.specs.declared.under.Under.TheVariants.{Between, One, Two, Three}
-use Rattle.mb_usb.specs.declared.under.Packet as kept
+use Rattle.mb_usb.specs.declared.under.Packets.{Packets}
 use Rattle.mb_usb.specs.Reading.{Packet, cable_of, used, carried, packets_from, usb_whole}
 use Rattle.mb_usb.specs.Under.{taken_of}
 use Rattle.mb_usb.specs.State.{UsbState, CableState, reader_at}
-use Rattle.mb_usb.specs.Cables.{listed, usb, each_cable, only_cable, UsbHolds, CableHolds, without_cable, UsbAnew, CableAnew}
+use Rattle.mb_usb.specs.Cables.{notes_in, usb, each_cable, only_cable, UsbHolds, CableHolds, without_cable, UsbAnew, CableAnew}
 use Rattle.mb_usb.proofs.CablesLaw.{each_low, each_law, each-payload, only_low, only_law, only-payload}
 use Rattle.mb_usb.proofs.OnlyCable.{cable_state}
 use Rattle.mb_usb.proofs.UsbReaderLaw.{usb_state, taken-from}
@@ -113,33 +113,33 @@ fresh-stands : (r : State) (offset : ℕ) → r ≡ record din.fresh { offset = 
 fresh-stands r offset e = subst (λ (s : State). Stands s [] []) (sym e) (rests offset)
 
 -- `now` are the readers afterwards
-anew-all : (p : kept.Packet) (dins now : List State) (c : ℕ) → c < 16 → Stands (reader_at now c) [] [] →
+anew-all : (p : Packets) (dins now : List State) (c : ℕ) → c < 16 → Stands (reader_at now c) [] [] →
     ((d : ℕ) → (d ≡ c → ⊥) → reader_at now d ≡ reader_at dins d) → UsbAnew c (usb_state p dins) (usb_state p now)
 anew-all p dins now c low fresh others bytes h all =
     let instead = without_cable c bytes in
     let known : UsbHolds p dins bytes (all_known (usb each_cable) 16 bytes) = subst (UsbHolds p dins bytes) (sym (each_law bytes)) h in
     subst (UsbHolds p now instead) (each_law instead)
-    (anew-holds (usb each_cable) 16 each_low p.offset p.under (listed p.due) (reader_at dins) (reader_at now) bytes instead c low known
+    (anew-holds (usb each_cable) 16 each_low p.offset p.under (notes_in p.due) (reader_at dins) (reader_at now) bytes instead c low known
     (length-without c bytes) (same-under each_cable c bytes all) (each-payload c instead low ∙ silent-from c 0 bytes)
     (λ d below other. each-payload d instead below ∙ (other-from c d 0 bytes other ∙ sym (each-payload d bytes below)))
     fresh (λ d below other. others d other))
 
-pub usb-anew : (was : UsbState) (p : kept.Packet) (dins : List State) (c : ℕ) (r : State) (offset : ℕ) → usb_state p dins ≡ was → c < 16 → c < length dins →
+pub usb-anew : (was : UsbState) (p : Packets) (dins : List State) (c : ℕ) (r : State) (offset : ℕ) → usb_state p dins ≡ was → c < 16 → c < length dins →
     r ≡ record din.fresh { offset = offset } → UsbAnew c was (usb_state p (slice_set dins c r))
 usb-anew was p dins c r offset e low here fresh =
     subst (λ (s : UsbState). UsbAnew c s (usb_state p (slice_set dins c r))) e
     (anew-all p dins (slice_set dins c r) c low (fresh-stands (reader_at (slice_set dins c r) c) offset (get_or-set_same dins c r din.fresh here ∙ fresh))
     (λ d other. get_or-set_other dins c d r din.fresh other))
 
-anew-alone : (c : ℕ) (p : kept.Packet) (r now : State) → Stands now [] [] → CableAnew (cable_state c p r) (cable_state c p now)
+anew-alone : (c : ℕ) (p : Packets) (r now : State) → Stands now [] [] → CableAnew (cable_state c p r) (cable_state c p now)
 anew-alone c p r now fresh bytes h all =
     let instead = without_cable c bytes in
     let known : CableHolds c p r bytes (one_known (usb (only_cable c)) bytes) = subst (CableHolds c p r bytes) (sym (only_law c bytes)) h in
     subst (CableHolds c p now instead) (only_law c instead)
-    (anew-one (usb (only_cable c)) (only_low c) p.offset p.under (listed p.due) (λ _. r) (λ _. now) bytes instead known
+    (anew-one (usb (only_cable c)) (only_low c) p.offset p.under (notes_in p.due) (λ _. r) (λ _. now) bytes instead known
     (length-without c bytes) (same-under (only_cable c) c bytes all) (only-payload c instead ∙ silent-from c 0 bytes) fresh)
 
-pub cable-anew : (was : CableState) (c : ℕ) (p : kept.Packet) (r now : State) (offset : ℕ) → cable_state c p r ≡ was →
+pub cable-anew : (was : CableState) (c : ℕ) (p : Packets) (r now : State) (offset : ℕ) → cable_state c p r ≡ was →
     now ≡ record din.fresh { offset = offset } → CableAnew was (cable_state c p now)
 cable-anew was c p r now offset e fresh =
     subst (λ (s : CableState). CableAnew s (cable_state c p now)) e (anew-alone c p r now (fresh-stands now offset fresh))

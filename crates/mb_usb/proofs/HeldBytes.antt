@@ -1,5 +1,5 @@
--- What a cable carries of written marks: bytes of a SysEx wait for a packet, and a real-time byte passes them. It means what
--- the marks' bytes mean at once, since a real-time message may stand anywhere in a SysEx.
+-- What a cable carries of written marks: bytes of a SysEx wait for a packet, and a real-time byte passes them. It means
+-- what the marks' bytes mean at once, since a real-time message may stand anywhere in a SysEx.
 use Rattle.std.proofs.Common.{◌≡◌, ℕ, suc, ◌+◌, Bool, true, false, ◌==◌, if◌then◌else◌, List, [], ◌∷◌, ◌++◌, length, Option, Some, None, ◌≤◌, refl, sym, ap, ap₂, ◌∙◌, subst, subst₂, append_assoc, append-nil, arith}
 use Rattle.mb_message.specs.Signs.{Sign, ShortSign, RtSign, OpenSign, ByteSign, EndSign, AbortSign}
 use Rattle.mb_stream.specs.Denotation.{Message, Syx, Broken, items_from, realtimes_from, denotation}

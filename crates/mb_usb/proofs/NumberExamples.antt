@@ -1,5 +1,5 @@
--- Which bytes suit each code index number (USB Device Class Definition for MIDI Devices 1.0, table 4-1): of each row bytes
--- that suit, and near misses that don't. Each holds by computing the definition.
+-- Which bytes suit each code index number (USB Device Class Definition for MIDI Devices 1.0, table 4-1): of each row
+-- bytes that suit, and near misses that don't. Each holds by computing the definition.
 use Rattle.std.proofs.Common.{◌≡◌, ℕ, Bool, true, false, List, [], ◌∷◌, map, refl}
 use Rattle.mb_usb.specs.Reading.{packets, suits_packet}
 
