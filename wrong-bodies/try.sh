@@ -11,6 +11,7 @@ room=$(mktemp -d)
 trap 'rm -rf "$room"' EXIT
 cp -r crates crates.txt HANDLES "$room"
 for crate in "$@"; do
+  mkdir -p "$room/crates/$crate/must-fail"
   rm -f "$room/crates/$crate/must-fail/"*.edit
   cp "wrong-bodies/$crate/"*.edit "$room/crates/$crate/must-fail/"
 done

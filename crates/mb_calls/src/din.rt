@@ -97,8 +97,10 @@ fn a_reader_is_placed_and_resumed(rt: HostRuntime) {
     reader.place(9);
     read_piece(&mut reader, &[0x3c, 0xf0], Runs::AsLent, &mut text);
     assert!(rt; reader.in_sysex() && !reader.may_run());
+    assert!(rt; !reader.is_free() && reader.offset() == 11);
     put_answer(0, reader.finish(), &mut text);
     put_answer(0, reader.finish(), &mut text);
+    assert!(rt; reader.is_free());
     reader.resume(0xc1);
     assert!(rt; reader.may_run() && !reader.in_sysex());
     read_piece(&mut reader, &[5], Runs::AsLent, &mut text);

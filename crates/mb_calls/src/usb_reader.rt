@@ -84,6 +84,55 @@ fn packets_are_read_cut_at_each_place(rt: HostRuntime) {
     }
 }
 
+/// Packets of which the bytes suit the code index number, row by row of its table, and near misses.
+const SUITING: &[([u8; 4], bool)] = &[
+    ([0x02, 0xf1, 0x7f, 0xff], true),
+    ([0x02, 0xf3, 0, 0], true),
+    ([0x02, 0xf2, 1, 2], false),
+    ([0x02, 0xf1, 0x80, 0], false),
+    ([0x02, 0xf6, 0, 0], false),
+    ([0x03, 0xf2, 0x7f, 0x7f], true),
+    ([0x03, 0xf3, 1, 2], false),
+    ([0x03, 0xf2, 0x80, 0], false),
+    ([0x03, 0xf2, 0, 0x80], false),
+    ([0x04, 0x7f, 0, 0x7f], true),
+    ([0x04, 0xf0, 1, 0xf7], false),
+    ([0x05, 0xf6, 0xff, 0xff], true),
+    ([0x05, 0xf7, 0, 0], true),
+    ([0x05, 0xf5, 0, 0], false),
+    ([0x05, 0x01, 0, 0], false),
+    ([0x06, 0xf0, 0xf7, 0xff], true),
+    ([0x06, 0x7f, 0xf7, 0], true),
+    ([0x06, 0xf0, 1, 0], false),
+    ([0x06, 0xf7, 0xf7, 0], false),
+    ([0x07, 0xf0, 0x7f, 0xf7], true),
+    ([0x07, 0x7f, 0, 0xf7], true),
+    ([0x07, 0xf0, 1, 2], false),
+    ([0x07, 0xf0, 0xf7, 0xf7], false),
+    ([0x08, 0x8f, 0x7f, 0x7f], true),
+    ([0x08, 0x90, 1, 2], false),
+    ([0x08, 0x80, 0x80, 0], false),
+    ([0x08, 0x80, 0, 0x80], false),
+    ([0x0c, 0xcf, 0x7f, 0xff], true),
+    ([0x0c, 0xd0, 1, 0], false),
+    ([0x0d, 0xdf, 0x7f, 0xff], true),
+    ([0x0d, 0xc0, 1, 0], false),
+    ([0x0d, 0xd0, 0x80, 0], false),
+    ([0x0e, 0xef, 0x7f, 0x7f], true),
+    ([0x0e, 0xd0, 1, 2], false),
+    ([0x0e, 0xe0, 0, 0x80], false),
+    ([0x0f, 0x90, 0xff, 0xff], true),
+];
+
+#[test]
+fn bytes_that_do_not_suit_their_number_have_a_note(rt: HostRuntime) {
+    for (packet, suits) in SUITING {
+        let told = told_in_pieces(packet, 4);
+        let is_noted = told.as_slice().ends_with(b"cin-mismatch\n");
+        assert!(rt; is_noted != *suits, "{packet:?}");
+    }
+}
+
 #[test]
 fn runs_are_lent_packet_by_packet(rt: HostRuntime) {
     let mut reader = UsbReader::new();
@@ -109,6 +158,22 @@ fn an_unfinished_packet_is_finished_on_its_cable(rt: HostRuntime) {
             .ends_with(b"0 abort\nnone\nnote 5 truncated\nnone\n")
     );
 }
+
+#[test]
+fn a_cable_goes_on_behind_its_end(rt: HostRuntime) {
+    let mut reader = UsbReader::new();
+    let mut text = Text::new();
+    let packets = &[0x19, 0x90, 0x3c, 0x64, 0x09, 0x91, 0x3c, 0x64];
+    read_piece(&mut reader, packets, Runs::ByteByByte, &mut text);
+    put_answer(1, reader.finish_port(1), &mut text);
+    // the running status of cable 1 is gone, that of cable 0 isn't
+    let more = &[0x1f, 5, 0, 0, 0x0f, 5, 0, 0, 0x0f, 6, 0, 0];
+    read_piece(&mut reader, more, Runs::ByteByByte, &mut text);
+    assert!(rt; text.as_slice() == BEHIND_AN_END.as_bytes());
+}
+
+const BEHIND_AN_END: &str =
+    "1 short 90 3C 64\n0 short 91 3C 64\nnone\nnote 9 stray-data\n0 short 91 05 06\n";
 
 fn read_cable(reader: &mut CableReader, piece: &[u8], text: &mut Text)
     requires { cable_offset reader.old + length piece.now < 2 ^ 63 }

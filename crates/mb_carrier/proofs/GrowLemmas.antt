@@ -7,7 +7,7 @@ use Rattle.std.proofs.lemmas.List.{append-nil}
 use Rattle.mb_message.specs.Signs.{Sign}
 use Rattle.mb_stream.specs.Puts.{Put, At, Flush, signs_in, puts_at, last_put}
 use Rattle.mb_stream.specs.Standing.{suited}
-use Rattle.mb_stream.proofs.OrderLemmas.{Each}
+use Rattle.mb_stream.specs.Order.{Each}
 use Rattle.mb_message.specs.Front.{IsFront}
 use Rattle.mb_stream.specs.Reading.{told_signs}
 use Rattle.mb_carrier.specs.Carrier.{known, puts_known, puts_so_far, puts_of, end_moment, end_told, live, written}

@@ -3,7 +3,7 @@ use Rattle.std.proofs.Common.{◌≡◌, ℕ, ◌+◌, ◌<◌, ◌≤◌, true,
 use Rattle.std.proofs.lemmas.List.{append-nil}
 use Rattle.mb_stream.specs.Told.{Known, Told, Marks, Notes}
 use Rattle.mb_stream.specs.Reading.{so_far}
-use Rattle.mb_stream.proofs.OrderLemmas.{Each}
+use Rattle.mb_stream.specs.Order.{Each}
 use Rattle.mb_din.specs.Recording.{din_payload}
 use Rattle.mb_din.specs.State.{State}
 use Rattle.mb_din.specs.State as din_state

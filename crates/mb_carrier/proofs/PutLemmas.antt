@@ -7,7 +7,7 @@ use Rattle.mb_stream.specs.Reading.{sign_in}
 use Rattle.mb_stream.specs.Appended.{Appended}
 use Rattle.mb_stream.proofs.AppendedLemmas.{Appended-behind, Appended-nothing}
 use Rattle.mb_stream.specs.Puts.{Put, At, Flush, signs_in, puts_at}
-use Rattle.mb_stream.proofs.OrderLemmas.{Each}
+use Rattle.mb_stream.specs.Order.{Each}
 use Rattle.mb_stream.proofs.PutsLemmas.{signs_in-append, signs_in-at, signs_in-more, signs_in-flush}
 use Rattle.mb_stream.specs.Reading.{told_signs}
 use Rattle.mb_carrier.specs.Carrier.{known, known_signs, end_told, marks_of, marks_so_far, moment_of, put_in}

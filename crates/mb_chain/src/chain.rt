@@ -98,10 +98,7 @@ impl Chain {
                 self.fed += input.len() as u64;
                 Ok(())
             }
-            Err(refused) => {
-                self.is_broken = true;
-                Err(refused)
-            }
+            Err(refused) => Err(self.break_off(refused)),
         }
     }
 
@@ -123,10 +120,7 @@ impl Chain {
     {
         match end(self.hops.as_mut_slice(), out) {
             Ok(()) => Ok(()),
-            Err(refused) => {
-                self.is_broken = true;
-                Err(refused)
-            }
+            Err(refused) => Err(self.break_off(refused)),
         }
     }
 
@@ -152,6 +146,15 @@ impl Chain {
             chain_links self.now ≡ first ∷ behind → result ≡ not (whole first.reads bytes) }
     {
         self.hops.as_slice()[0].reader.partial()
+    }
+
+    /// After a refusal nothing more is fed.
+    fn break_off(&mut self, refused: Refused) -> Refused
+        ensures broken { is_broken self.new ≡ true }
+        ensures links { chain_links self.new ≡ chain_links self.old }
+    {
+        self.is_broken = true;
+        refused
     }
 
     /// Whether a call was refused.

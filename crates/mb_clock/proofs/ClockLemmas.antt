@@ -1,8 +1,10 @@
 -- What is kept of the packets so far, after one more packet, and after one more stamp.
-use Rattle.std.proofs.Common.{◌≡◌, ℕ, ◌+◌, ◌*◌, ◌%◌, ◌<◌, Bool, true, false, nat_lt, if◌then◌else◌, List, [], ◌∷◌, ◌++◌, refl, sym, ◌∙◌, ap, arith, append_assoc, append-nil}
+use Rattle.std.proofs.Common.{◌≡◌, ℕ, ◌+◌, ◌*◌, ◌%◌, ◌<◌, Bool, true, false, nat_lt, if◌then◌else◌, List, [], ◌∷◌, ◌++◌}
+use Rattle.std.proofs.Common.{refl, sym, ◌∙◌, ap, arith, append_assoc, append-nil}
 use Rattle.std.proofs.lemmas.Bool.Decides.{nat_tests}
 use Rattle.std.proofs.lemmas.Grind.{flat_map-append}
-use Rattle.mb_clock.specs.Stamps.{Packet, last_or, falls, falls_behind, last_upper, last_bits, with_stamp, bits_behind, packet_bits, all_bits}
+use Rattle.mb_clock.specs.Stamps.{Packet, last_or, falls, falls_behind, last_upper, last_bits, with_stamp, bits_behind}
+use Rattle.mb_clock.specs.Stamps.{packet_bits, all_bits}
 use Rattle.mb_clock.specs.Moments.{next_moment, moments_from}
 use Rattle.mb_clock.specs.Clock.{Clock, last_packet, last_moment, clock_of, begun, upper_at, stamped}
 use Rattle.mb_clock.proofs.MomentLemmas.{last_or-push}

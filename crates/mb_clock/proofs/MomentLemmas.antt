@@ -1,6 +1,7 @@
 -- Each moment is the least that the one before and the stamp allow.
 use Rattle.std.proofs.Common.{◌≡◌, ℕ, ◌+◌, ◌*◌, ◌%◌, ◌<◌, ◌≤◌, List, [], ◌∷◌, ◌++◌, refl, sym, ◌∙◌, ap, subst, arith}
-use Rattle.mb_clock.specs.Stamps.{Packet, AreSevens, ArePackets, upper_six, lower_seven, last_or, last_bits, with_stamp, bits_behind, packet_bits, all_bits}
+use Rattle.mb_clock.specs.Stamps.{Packet, AreSevens, ArePackets, upper_six, lower_seven, last_or, last_bits, with_stamp}
+use Rattle.mb_clock.specs.Stamps.{bits_behind, packet_bits, all_bits}
 use Rattle.mb_clock.specs.Moments.{IsNextMoment, AreMoments, AreNear, stamped_alone, next_moment, moments_from}
 
 -- a list of 13 bits each

@@ -1,7 +1,7 @@
 -- What is kept of the stamps so far.
 --
---   Clock                 the upper six bits in the packet under way, the lower seven of its last stamp (0 before any), and
---                         the last moment
+--   Clock                 the upper six bits in the packet under way, the lower seven of its last stamp (0 before any),
+--                         and the last moment
 --   clock_of ps           what is to be kept of these packets, the last of which is under way
 --   begun c high          a packet begins
 --   stamped c low         a stamp follows

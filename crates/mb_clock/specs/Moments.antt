@@ -5,7 +5,8 @@
 --   AreMoments last bits ms       each is the next of the one before it
 --   AreNear last ms               each is less than 8,192 ms behind the one before it, and not before it
 --   stamped_alone ms              each in a packet of its own, by its own 13 bits
---   moments ps                    the moments of all stamps of the packets: before the first stands 0, so it has its 13 bits as its moment
+--   moments ps                    the moments of all stamps of the packets: before the first stands 0, so it has its 13
+--                                 bits as its moment
 use Rattle.std.specs.Prelude.{◌≡◌, ℕ, ◌+◌, ◌-◌, ◌%◌, ◌<◌, ◌≤◌, List, [], ◌∷◌, map}
 use Rattle.mb_clock.specs.Stamps.{Packet, all_bits, upper_six, lower_seven}
 

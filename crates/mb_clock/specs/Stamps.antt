@@ -1,6 +1,6 @@
--- Time stamps of BLE-MIDI packets (BLE-MIDI 1.0, "Timestamp"): 13 bits, of milliseconds. A packet's header has the upper
--- six, each stamp in it its own lower seven. Where the lower seven fall from one stamp to the next, the upper six have
--- risen by one. BLE-MIDI 1.0 has at most one such place in a packet; that any number counts is the project's own.
+-- Time stamps of BLE-MIDI packets (BLE-MIDI 1.0, "Timestamp"): 13 bits, of milliseconds. A packet's header has the
+-- upper six, each stamp in it its own lower seven. Where the lower seven fall from one stamp to the next, the upper six
+-- have risen by one. BLE-MIDI 1.0 has at most one such place in a packet; that any number counts is the project's own.
 --
 --   upper_six m, lower_seven m     both parts of a moment's 13 bits
 --   Packet                         the header's upper six, and the lower seven of the stamps in order

@@ -10,8 +10,8 @@ pub fn moments_are_least()
     ensures only { (packets : List Packet) (ms : List ℕ) → AreMoments 0 (all_bits packets) ms → ms ≡ moments packets }
 {}
 
-/// A stamp gives back the moment that it was made of, where less than 8,192 ms passed since the last; so do stamps in packets
-/// of their own.
+/// A stamp gives back the moment that it was made of, where less than 8,192 ms passed since the last; so do stamps in
+/// packets of their own.
 pub fn near_moments_come_back()
     ensures one { (last moment : ℕ) → last ≤ moment → moment < last + 8192 →
         IsNextMoment last (moment % 8192) moment }

@@ -1,10 +1,12 @@
 -- What a collector stands for, mark by mark.
-use Rattle.std.proofs.Common.{◌≡◌, ℕ, Bool, true, List, [], ◌∷◌, ◌++◌, Option, Some, None, is_some, refl, sym, ap, ◌∙◌}
+use Rattle.std.proofs.Common.{◌≡◌, ℕ, Bool, true, false, List, [], ◌∷◌, ◌++◌, Option, Some, None, is_some, refl, sym}
+use Rattle.std.proofs.Common.{ap, ◌∙◌}
 use mathlib.Core.List.{append_assoc}
 use Rattle.std.proofs.lemmas.List.{append-nil}
 use Rattle.std.proofs.lemmas.Bool.{false≢true}
 use Rattle.mb_message.specs.Signs.{Sign, ShortSign, RtSign, OpenSign, ByteSign, EndSign, AbortSign, suits_sign}
-use Rattle.mb_stream.specs.Denotation.{Meant, Message, Syx, Broken, Timed, items_from, realtimes_from, Denotation, denotation, left_open}
+use Rattle.mb_stream.specs.Denotation.{Meant, Message, Syx, Broken, Timed, items_from, realtimes_from, Denotation}
+use Rattle.mb_stream.specs.Denotation.{denotation, left_open}
 use Rattle.mb_stream.proofs.StandingLemmas.{is_open-push, open_after}
 use Rattle.mb_denote.specs.Collected.{Collected, Stands, in_sysex}
 use Rattle.mb_denote.specs.Collecting.{with_mark}
@@ -23,14 +25,19 @@ items_step items realtimes ended (Some ds) EndSign more = sym (append_assoc item
 items_step items realtimes ended None AbortSign more = refl
 items_step items realtimes ended (Some ds) AbortSign more = sym (append_assoc items (Broken ds ∷ []) (items_from None more))
 
-realtimes_step : (c : Collected) (m : Sign) (more : List Sign) →
-    c.realtimes ++ realtimes_from c.ended (m ∷ more) ≡ (with_mark c m).realtimes ++ realtimes_from (with_mark c m).ended more
-realtimes_step c (ShortSign s d1 d2) more = refl
-realtimes_step c (RtSign b) more = sym (append_assoc c.realtimes (record { byte = b; after = c.ended } ∷ []) (realtimes_from c.ended more))
-realtimes_step c OpenSign more = refl
-realtimes_step c (ByteSign b) more = refl
-realtimes_step c EndSign more = refl
-realtimes_step c AbortSign more = refl
+realtimes_step : (items : List Meant) (realtimes : List Timed) (ended : ℕ) (o : Option (List ℕ)) (m : Sign) (more : List Sign) →
+    let c : Collected = record { items = items; realtimes = realtimes; ended = ended; open_data = o } in
+    realtimes ++ realtimes_from (in_sysex c) ended (m ∷ more) ≡
+    (with_mark c m).realtimes ++ realtimes_from (in_sysex (with_mark c m)) (with_mark c m).ended more
+realtimes_step items realtimes ended o (ShortSign s d1 d2) more = refl
+realtimes_step items realtimes ended o (RtSign b) more =
+    sym (append_assoc realtimes (record { byte = b; after = ended } ∷ []) (realtimes_from (is_some o) ended more))
+realtimes_step items realtimes ended o OpenSign more = refl
+realtimes_step items realtimes ended None (ByteSign b) more = refl
+realtimes_step items realtimes ended (Some ds) (ByteSign b) more = refl
+realtimes_step items realtimes ended None EndSign more = refl
+realtimes_step items realtimes ended (Some ds) EndSign more = refl
+realtimes_step items realtimes ended o AbortSign more = refl
 
 -- whether a SysEx is open behind it
 open_step : (items : List Meant) (realtimes : List Timed) (ended : ℕ) (o : Option (List ℕ)) (m : Sign) → suits_sign (is_some o) m ≡ true →
@@ -51,21 +58,21 @@ Stands_put c m ms suits h = record {
   items_hold = λ more.
       ap (items_from None) (append_assoc ms (m ∷ []) more) ∙ h.items_hold (m ∷ more) ∙ items_step c.items c.realtimes c.ended c.open_data m more;
   realtimes_hold = λ more.
-      ap (realtimes_from 0) (append_assoc ms (m ∷ []) more) ∙ h.realtimes_hold (m ∷ more) ∙ realtimes_step c m more;
+      ap (realtimes_from false 0) (append_assoc ms (m ∷ []) more) ∙ h.realtimes_hold (m ∷ more) ∙ realtimes_step c.items c.realtimes c.ended c.open_data m more;
 }
 
 -- the end of the marks
 items_finished : (c : Collected) (ms : List Sign) → Stands c ms → items_from None ms ≡ c.items ++ left_open c.open_data
 items_finished c ms h = ap (items_from None) (sym (append-nil ms)) ∙ h.items_hold []
 
-realtimes_finished : (c : Collected) (ms : List Sign) → Stands c ms → realtimes_from 0 ms ≡ c.realtimes
-realtimes_finished c ms h = ap (realtimes_from 0) (sym (append-nil ms)) ∙ h.realtimes_hold [] ∙ append-nil c.realtimes
+realtimes_finished : (c : Collected) (ms : List Sign) → Stands c ms → realtimes_from false 0 ms ≡ c.realtimes
+realtimes_finished c ms h = ap (realtimes_from false 0) (sym (append-nil ms)) ∙ h.realtimes_hold [] ∙ append-nil c.realtimes
 
 pub Stands_finish : (c : Collected) (ms : List Sign) (d : Denotation) → Stands c ms →
     d.items ≡ c.items ++ left_open c.open_data → d.realtimes ≡ c.realtimes → d ≡ denotation ms
 Stands_finish c ms d h items realtimes =
     let same_items : d.items ≡ items_from None ms = items ∙ sym (items_finished c ms h) in
-    let same_realtimes : d.realtimes ≡ realtimes_from 0 ms = realtimes ∙ sym (realtimes_finished c ms h) in
+    let same_realtimes : d.realtimes ≡ realtimes_from false 0 ms = realtimes ∙ sym (realtimes_finished c ms h) in
     let with_items : List Meant → Denotation = λ xs. record { items = xs; realtimes = d.realtimes } in
     let with_realtimes : List Timed → Denotation = λ ts. record { items = items_from None ms; realtimes = ts } in
     ap with_items same_items ∙ ap with_realtimes same_realtimes

@@ -1,4 +1,5 @@
--- `==` of the parts of a denotation answers true exactly where they are equal, and they are equal where they mean the same.
+-- `==` of the parts of a denotation answers true exactly where they are equal, and they are equal where they mean the
+-- same.
 use Rattle.std.proofs.Common.{◌≡◌, ℕ, Bool, true, List, [], ◌∷◌, map, refl, ap, subst, ◌∙◌}
 use Rattle.std.proofs.Math.Bool.{Bool-set}
 use Rattle.std.proofs.lemmas.Bool.{false≢true}

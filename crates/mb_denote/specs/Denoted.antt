@@ -1,5 +1,5 @@
--- Denotations as values of the program, and as the definition has them: `Short` and `Rt` carry a proof that they are valid,
--- which the definition leaves out.
+-- Denotations as values of the program, and as the definition has them: `Short` and `Rt` carry a proof that they are
+-- valid, which the definition leaves out.
 --
 --   meant item      what an item is
 --   timed at        a real-time message, and how many messages and whole SysEx ended before it

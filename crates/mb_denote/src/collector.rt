@@ -1,6 +1,7 @@
 //! The denotation of marks that come one by one.
 
-ghost use Rattle.std.specs.Prelude.{◌≡◌, ◌+◌, ◌<◌, ◌≤◌, true, false, [], ◌∷◌, ◌++◌, List, IfOk, IsOk, OnErr, OnOk, is_some, map, vec_capacity, vec_len};
+ghost use Rattle.std.specs.Prelude.{◌≡◌, ◌+◌, ◌<◌, ◌≤◌, true, false, [], ◌∷◌, ◌++◌, List, IfOk, IsOk, OnErr, OnOk};
+ghost use Rattle.std.specs.Prelude.{is_some, map, vec_capacity, vec_len};
 ghost use Rattle.mb_message.specs.Signs.{Sign, ShortSign, RtSign, ByteSign, EndSign, AbortSign, sign_of, suits_sign};
 ghost use Rattle.mb_stream.specs.Denotation.{denotation, left_open};
 ghost use Rattle.mb_denote.specs.Collected.{Stands, in_sysex};
@@ -66,13 +67,15 @@ impl Collector {
     /// The next mark, which suits. Without memory nothing changes.
     pub fn put(&mut self, mark: Mark) -> Result<(), Memory>
         requires suits { suits_sign (in_sysex self.old) (sign_of mark) ≡ true }
-        ensures stands { OnOk result ((marks : List Sign) → Stands self.old marks → Stands self.new (marks ++ sign_of mark ∷ [])) }
+        ensures stands { OnOk result
+            ((marks : List Sign) → Stands self.old marks → Stands self.new (marks ++ sign_of mark ∷ [])) }
         ensures err { OnErr result (self.new ≡ self.old) }
     {
         self.collect(mark)
     }
 
-    /// What the marks mean. A SysEx that is still open is broken off, which alone takes memory; without it all is given up.
+    /// What the marks mean. A SysEx that is still open is broken off, which alone takes memory; without it all is given
+    /// up.
     pub fn finish(self) -> Result<Den, Memory>
         ensures closed { in_sysex self ≡ false → IsOk result }
         ensures means { (marks : List Sign) → Stands self marks → IfOk result (λ den. denoted den ≡ denotation marks) }
@@ -190,7 +193,8 @@ fn push<T: Drop>(items: &mut Vec<T>, item: T) -> Result<(), Memory>
     }
 }
 
-/// Room for one value more. It is made before an open SysEx is taken, so that nothing has to be put back after a refusal.
+/// Room for one value more. It is made before an open SysEx is taken, so that nothing has to be put back after a
+/// refusal.
 fn room(items: &mut Vec<Item>) -> Result<(), Memory>
     ensures ok { OnOk result (vec_len items.new < vec_capacity items.new) }
     ensures items { items.new.items ≡ items.old.items }

@@ -28,8 +28,8 @@ impl Counts {
         }
     }
 
-    /// Counts a mark: a short message, an end, an abort or a real-time message. A start and a data byte count for nothing.
-    /// No field is at its last value.
+    /// Counts a mark: a short message, an end, an abort or a real-time message. A start and a data byte count for
+    /// nothing. No field is at its last value.
     pub fn put(&mut self, mark: Mark)
         requires msg { self.old.msg < u64.MAX }
         requires syx { self.old.syx < u64.MAX }

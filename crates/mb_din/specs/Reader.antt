@@ -87,6 +87,7 @@ put_to offset s = record s { offset = offset }
 -- All of a piece that stands at an offset was taken. It is what a call tells that is given the piece as its input.
 pub record TakesWhole (was now : State) (at : ℕ) (piece : List ℕ) (answer : List Told) : Type 0 where
   pub offset : now.offset ≡ at + length piece
-  pub stays : (entries : List Entry) → Stands was entries (so_far entries) → Stands (put_to at was) entries (so_far entries)
+  pub stays : (entries : List Entry) → Stands was entries (so_far entries) →
+      Stands (put_to at was) entries (so_far entries)
   pub goes : NextSays (put_to at was) now piece [] answer
   pub few : length (told_signs answer) ≤ length piece

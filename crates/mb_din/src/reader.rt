@@ -1,6 +1,7 @@
 //! The reader of the byte line.
 
-ghost use Rattle.std.specs.Prelude.{◌≡◌, ◌↔◌, ◌+◌, ◌*◌, ◌<◌, ◌≤◌, ◌^◌, ◌&&◌, true, false, Some, [], ◌∷◌, ◌++◌, ℕ, List, length, OnSome, IsSome, IfSome, IfNone};
+ghost use Rattle.std.specs.Prelude.{◌≡◌, ◌↔◌, ◌+◌, ◌*◌, ◌<◌, ◌≤◌, ◌^◌, ◌&&◌, true, false, Some, [], ◌∷◌, ◌++◌, ℕ, List};
+ghost use Rattle.std.specs.Prelude.{length, OnSome, IsSome, IfSome, IfNone};
 ghost use Rattle.mb_message.specs.Bytes.{is_channel, is_data, is_realtime, data_length};
 ghost use Rattle.mb_stream.specs.Payload.{Entry, Silent, heard_from};
 ghost use Rattle.mb_stream.specs.Groups.{last_of, is_sysex};
@@ -78,12 +79,12 @@ impl DinReader {
         ensures all_told { IfNone result (DinAllTold self.old input.old.now) }
         ensures longest { IfSome result (IsLongest input.new.now) }
 
-        // What a status breaks is told of before the status is taken: it still stands in the input, and nothing is begun,
-        // running or open.
+        // What a status breaks is told of before the status is taken: it still stands in the input, and nothing is
+        // begun, running or open.
         ensures before { breaks (answer result) ≡ true → StatusNext input.new.now × Rests self.new }
 
-        // Behind a short message nothing is begun and no SysEx is open: a status may run from here on without a byte of its
-        // own.
+        // Behind a short message nothing is begun and no SysEx is open: a status may run from here on without a byte of
+        // its own.
         ensures free { has_short (answer result) ≡ true → free_now self.new ≡ true }
 
         // A run is told only where a SysEx was open and the run begins the input.
@@ -121,8 +122,9 @@ impl DinReader {
         Some(short(status, data1, 0))
     }
 
-    /// The message of a channel status and its two data bytes, of which the status has this offset: what `next` tells of
-    /// them. `None`, and nothing is taken, where a message is begun or a SysEx open, or one of the two is no data byte.
+    /// The message of a channel status and its two data bytes, of which the status has this offset: what `next` tells
+    /// of them. `None`, and nothing is taken, where a message is begun or a SysEx open, or one of the two is no data
+    /// byte.
     #[inline(always)]
     pub fn read_three(&mut self, at: u64, status: u8, data1: u8, data2: u8) -> Option<Seen<'static>>
         requires place { self.old.offset ≤ at }
@@ -157,8 +159,8 @@ impl DinReader {
         realtime(at, byte)
     }
 
-    /// Three bytes, of which the first has this offset, as a run of an open SysEx: what `next` tells of them. `None`, and
-    /// nothing is taken, where none is open, or one of the three is no data byte.
+    /// Three bytes, of which the first has this offset, as a run of an open SysEx: what `next` tells of them. `None`,
+    /// and nothing is taken, where none is open, or one of the three is no data byte.
     #[inline(always)]
     pub fn read_run<'a>(&mut self, at: u64, bytes: &'a [u8]) -> Option<Seen<'a>>
         requires place { self.old.offset ≤ at }
@@ -201,8 +203,8 @@ impl DinReader {
         told
     }
 
-    /// A channel status, 80 to EF, runs from here on without a byte of its own. No message is begun then and no SysEx open:
-    /// it would be given up untold. `finish` ends either, and tells of it.
+    /// A channel status, 80 to EF, runs from here on without a byte of its own. No message is begun then and no SysEx
+    /// open: it would be given up untold. `finish` ends either, and tells of it.
     pub fn resume(&mut self, status: u8)
         requires channel { is_channel status ≡ true }
         requires free { free_now self.old ≡ true }
@@ -211,7 +213,8 @@ impl DinReader {
         ensures stands { (entries : List Entry) → Stands self.old entries (so_far entries) →
             Stands self.new (entries ++ Silent status ∷ []) (so_far entries) }
     {
-        self.progress = Progress::Running(status);
+        let running = Progress::Running(status);
+        self.progress = running;
     }
 
     /// Whether the next data byte would begin a message of a running status. Right after a status byte it would not,
@@ -223,6 +226,21 @@ impl DinReader {
             result ≡ may_run (last_of entries) }
     {
         is_running(self.progress)
+    }
+
+    /// Whether no message is begun and no SysEx open: `resume` asks for that.
+    #[inline(always)]
+    pub fn is_free(&self) -> bool
+        ensures { result ≡ free_now self.now }
+    {
+        is_free(self.progress)
+    }
+
+    /// The offset of the next byte: `place` asks for one that isn't below it.
+    pub fn offset(&self) -> u64
+        ensures { result ≡ self.now.offset }
+    {
+        self.offset
     }
 
     /// Whether a SysEx is open.
@@ -256,8 +274,8 @@ impl DinReader {
         None
     }
 
-    /// Takes a channel message that stands whole at the front of the input, as nearly all do: of a status there, or of the
-    /// one that runs. `None`, and nothing is taken, where anything else stands there.
+    /// Takes a channel message that stands whole at the front of the input, as nearly all do: of a status there, or of
+    /// the one that runs. `None`, and nothing is taken, where anything else stands there.
     #[inline(always)]
     fn take_message<'a>(&mut self, input: &mut &'a [u8]) -> Option<Seen<'a>>
         requires early { self.old.offset + length input.old.now < 2 ^ 63 }

@@ -1,9 +1,11 @@
 -- Readers that took the same bytes, and one that is told of bytes one by one.
-use Rattle.std.proofs.Common.{◌≡◌, ◌≢◌, ℕ, zero, suc, ◌+◌, ◌*◌, ◌-◌, ◌<◌, ◌≤◌, true, false, List, [], ◌∷◌, ◌++◌, length, map, refl, sym, ◌∙◌, ap, subst, arith, append_assoc, append-nil}
+use Rattle.std.proofs.Common.{◌≡◌, ◌≢◌, ℕ, zero, suc, ◌+◌, ◌*◌, ◌-◌, ◌<◌, ◌≤◌, true, false, List, [], ◌∷◌, ◌++◌, length}
+use Rattle.std.proofs.Common.{map, refl, sym, ◌∙◌, ap, subst, arith, append_assoc, append-nil}
 use Rattle.std.proofs.lemmas.Bool.Decides.{nat_tests}
 use Rattle.std.proofs.lemmas.List.{append_cancel_left}
 use Rattle.mb_frames.specs.Frames.{FramePart, FrameBegin, FrameByte, FrameEnd, parts}
-use Rattle.mb_frames.specs.Reading.{Place, Between, High, Within, from, Stands, room_of, behind_length, length_ended, begun, is_at_end}
+use Rattle.mb_frames.specs.Reading.{Place, Between, High, Within, from, Stands, room_of, behind_length, length_ended}
+use Rattle.mb_frames.specs.Reading.{begun, is_at_end}
 use Rattle.mb_frames.proofs.Steps.{rest_parts-zero, rest_parts-append, parts-counted}
 
 -- but for an end there is nothing to tell without a byte

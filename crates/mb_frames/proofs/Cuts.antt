@@ -1,8 +1,11 @@
 -- A list of bytes is frames and an unfinished one; its parts are theirs.
-use Rattle.std.proofs.Common.{◌≡◌, ℕ, zero, suc, ◌+◌, ◌*◌, ◌-◌, ◌/◌, ◌%◌, ◌<◌, ◌⊎◌, inl, inr, true, false, List, [], ◌∷◌, ◌++◌, length, map, refl, sym, ◌∙◌, ap, subst, arith, append_assoc, append-nil, length-append}
+use Rattle.std.proofs.Common.{◌≡◌, ℕ, zero, suc, ◌+◌, ◌*◌, ◌-◌, ◌/◌, ◌%◌, ◌<◌, ◌⊎◌, inl, inr, true, false, List, []}
+use Rattle.std.proofs.Common.{◌∷◌, ◌++◌, length, map, refl, sym, ◌∙◌, ap, subst, arith, append_assoc, append-nil}
+use Rattle.std.proofs.Common.{length-append}
 use Rattle.std.proofs.lemmas.Bool.Decides.{nat_tests}
 use Rattle.std.specs.List.{flat_map}
-use Rattle.mb_frames.specs.Frames.{FramePart, FrameBegin, FrameByte, FrameEnd, frame, frame_parts, parts, unfinished_parts, IsUnfinished, Cut, AreBytes}
+use Rattle.mb_frames.specs.Frames.{FramePart, FrameBegin, FrameByte, FrameEnd, frame, frame_parts, parts}
+use Rattle.mb_frames.specs.Frames.{unfinished_parts, IsUnfinished, Cut, AreBytes}
 use Rattle.mb_frames.specs.Counting.{counted_parts, rest_parts}
 use Rattle.mb_frames.specs.Reading.{Place, Between, High, Within, from, Stands, IsWhole, is_partial}
 use Rattle.mb_frames.proofs.Steps.{rest_parts-zero, rest_parts-append, parts-counted}

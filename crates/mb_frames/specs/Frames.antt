@@ -10,7 +10,8 @@
 --   IsUnfinished rest        the front of a frame, and no whole one
 --   Cut bytes                the frames of a list, and its rest
 --   AreBytes bytes           each is below 256
-use Rattle.std.specs.Prelude.{◌≡◌, ℕ, zero, suc, ◌+◌, ◌*◌, ◌/◌, ◌%◌, ◌<◌, ◌==◌, if◌then◌else◌, List, [], ◌∷◌, ◌++◌, length, take, drop, map, flat_map}
+use Rattle.std.specs.Prelude.{◌≡◌, ℕ, zero, suc, ◌+◌, ◌*◌, ◌/◌, ◌%◌, ◌<◌, ◌==◌, if◌then◌else◌, List, [], ◌∷◌, ◌++◌}
+use Rattle.std.specs.Prelude.{length, take, drop, map, flat_map}
 
 pub data FramePart : Type 0 where
   FrameBegin : (length : ℕ) → FramePart

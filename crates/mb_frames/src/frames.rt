@@ -1,8 +1,10 @@
 //! Reading frames byte by byte.
 
-ghost use Rattle.std.specs.Prelude.{◌≡◌, ℕ, ◌+◌, ◌-◌, ◌*◌, ◌<◌, ◌≤◌, ◌↔◌, List, [], ◌∷◌, ◌++◌, true, false, length, map};
+ghost use Rattle.std.specs.Prelude.{◌≡◌, ℕ, ◌+◌, ◌-◌, ◌*◌, ◌<◌, ◌≤◌, ◌↔◌, List, [], ◌∷◌, ◌++◌, true, false, length};
+ghost use Rattle.std.specs.Prelude.{map};
 ghost use Rattle.mb_frames.specs.Frames.{FramePart, FrameByte, FrameEnd};
-ghost use Rattle.mb_frames.specs.Reading.{Between, Within, Stands, IsWhole, behind_length, begun, is_at_end, is_partial, length_ended, room_of};
+ghost use Rattle.mb_frames.specs.Reading.{Between, Within, Stands, IsWhole, behind_length, begun, is_at_end};
+ghost use Rattle.mb_frames.specs.Reading.{is_partial, length_ended, room_of};
 
 use std::marker::Model;
 

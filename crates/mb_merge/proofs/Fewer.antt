@@ -1,12 +1,14 @@
 -- A mark that passes is one fewer to pass.
-use Rattle.std.proofs.Common.{◌≡◌, ℕ, ◌+◌, ◌<◌, List, [], length, drop, Option, Some, None, refl, sym, ◌∙◌, ap, subst, arith}
+use Rattle.std.proofs.Common.{◌≡◌, ℕ, ◌+◌, ◌<◌, List, [], length, drop, Option, Some, None, refl, sym, ◌∙◌, ap, subst}
+use Rattle.std.proofs.Common.{arith}
 use Rattle.std.specs.Prelude.{slice_get, slice_set, sum_by, OnSome}
 use Rattle.std.proofs.lemmas.List.Sums.{sum_by-set}
 use Rattle.mb_merge.specs.declared.source.Held.{Held}
 use Rattle.mb_merge.specs.declared.router.Passed.{Passed}
 use Rattle.mb_merge.specs.declared.waiting.Head.{Head}
 use Rattle.mb_merge.specs.Links.{Link, Merger, HasSource, closed_link, link_at, link_of}
-use Rattle.mb_merge.specs.Passing.{least, after_pass, after_head, head_passes, held_passes, offered_passes, next_of, count_offered, to_pass}
+use Rattle.mb_merge.specs.Passing.{least, after_pass, after_head, head_passes, held_passes, offered_passes, next_of}
+use Rattle.mb_merge.specs.Passing.{count_offered, to_pass}
 use Rattle.mb_merge.specs.Calls.{IsLeast}
 use Rattle.mb_merge.proofs.LeastLemmas.{least-IsLeast}
 use Rattle.mb_merge.proofs.Histories.{head_list}

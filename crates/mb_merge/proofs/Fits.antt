@@ -1,5 +1,7 @@
 -- What holds of a router between calls, and that each call keeps it.
-use Rattle.std.proofs.Common.{◌≡◌, ◌≢◌, ◌↔◌, ℕ, ◌<◌, ◌≤◌, ◌⊎◌, inl, inr, Bool, true, false, not, ◌&&◌, ◌||◌, ◌==◌, if◌then◌else◌, List, [], ◌∷◌, ◌++◌, length, map, drop, Option, Some, None, refl, sym, ◌∙◌, ap, subst, arith}
+use Rattle.std.proofs.Common.{◌≡◌, ◌≢◌, ◌↔◌, ℕ, ◌<◌, ◌≤◌, ◌⊎◌, inl, inr, Bool, true, false, not, ◌&&◌, ◌||◌, ◌==◌}
+use Rattle.std.proofs.Common.{if◌then◌else◌, List, [], ◌∷◌, ◌++◌, length, map, drop, Option, Some, None, refl, sym, ◌∙◌}
+use Rattle.std.proofs.Common.{ap, subst, arith}
 use Rattle.std.specs.Prelude.{slice_set}
 use Rattle.std.proofs.lemmas.Bool.Decides.{nat_tests}
 use Rattle.std.proofs.lemmas.Option.{none-some}
@@ -10,9 +12,12 @@ use Rattle.mb_message.specs.Signs.{sign_of, suits_sign}
 use Rattle.mb_merge.specs.declared.source.Held.{Held}
 use Rattle.mb_merge.specs.declared.router.Passed.{Passed}
 use Rattle.mb_merge.specs.Links.{Link, Merger, HasSource, link_at, link_of, with_link, is_owned}
-use Rattle.mb_merge.specs.Passing.{has_room, has_room_in, is_realtime_mark, may_pass, opens, least, passes_now, taken, offered_mark, after_pass, after_head, drained}
+use Rattle.mb_merge.specs.Passing.{has_room, has_room_in, is_realtime_mark, may_pass, opens, least, passes_now, taken}
+use Rattle.mb_merge.specs.Passing.{offered_mark, after_pass, after_head, drained}
 use Rattle.mb_merge.specs.Calls.{in_turn, IsExclusive}
-use Rattle.mb_merge.proofs.Flows.{link_at-set_same, link_at-set_other, same_or_not, Suit, Suit-append, NoRealtime, NoRealtime-append, opens-realtime, IsFree, not_owned-free, exclusive-set, Alike, alike-set, IsFree-alike, IsExclusive-alike}
+use Rattle.mb_merge.proofs.Flows.{link_at-set_same, link_at-set_other, same_or_not, Suit, Suit-append, NoRealtime}
+use Rattle.mb_merge.proofs.Flows.{NoRealtime-append, opens-realtime, IsFree, not_owned-free, exclusive-set, Alike}
+use Rattle.mb_merge.proofs.Flows.{alike-set, IsFree-alike, IsExclusive-alike}
 
 -- the mark just offered, where it is of this source and keeps its turn
 abbrev pub offered_turn : Option Passed → ℕ → List Mark

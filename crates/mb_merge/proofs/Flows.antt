@@ -1,11 +1,12 @@
--- What is pending of a source: the mark just offered of it and those held suit one after another, from what has passed of
--- the source to what was taken of it.
+-- What is pending of a source: the mark just offered of it and those held suit one after another, from what has passed
+-- of the source to what was taken of it.
 --
 --   pending o s link        the marks of a source that were taken and haven't passed, but for real-time ones
 --   Suit open ms last       the marks suit one after another, and leave a SysEx open or not
 --   IsFree ls s             no other source has an open SysEx on an out of it
 --   Fits m                  what holds of a router between calls
-use Rattle.std.proofs.Common.{◌≡◌, ◌≢◌, ℕ, ◌<◌, ◌⊎◌, inl, inr, Bool, true, false, ◌&&◌, ◌||◌, List, [], ◌∷◌, ◌++◌, length, refl, sym, ◌∙◌, ap, subst, arith}
+use Rattle.std.proofs.Common.{◌≡◌, ◌≢◌, ℕ, ◌<◌, ◌⊎◌, inl, inr, Bool, true, false, ◌&&◌, ◌||◌, List, [], ◌∷◌, ◌++◌}
+use Rattle.std.proofs.Common.{length, refl, sym, ◌∙◌, ap, subst, arith}
 use Rattle.std.specs.Prelude.{slice_set}
 use Rattle.std.proofs.lemmas.List.{get_or-set_same, get_or-set_other, length-set}
 use Rattle.mb_message.specs.declared.mark.Mark.{Mark}

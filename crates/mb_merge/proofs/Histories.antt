@@ -1,5 +1,7 @@
 -- Over any list of calls: what was taken of a source is what has passed, and behind it what waits.
-use Rattle.std.proofs.Common.{◌≡◌, ◌≢◌, ℕ, ◌<◌, ◌≤◌, ◌⊎◌, inl, inr, Bool, true, false, not, ◌&&◌, nat_lt, nat_le, if◌then◌else◌, List, [], ◌∷◌, ◌++◌, length, map, drop, Option, Some, None, refl, sym, ◌∙◌, ap, subst, arith, append-nil, append_assoc}
+use Rattle.std.proofs.Common.{◌≡◌, ◌≢◌, ℕ, ◌<◌, ◌≤◌, ◌⊎◌, inl, inr, Bool, true, false, not, ◌&&◌, nat_lt, nat_le}
+use Rattle.std.proofs.Common.{if◌then◌else◌, List, [], ◌∷◌, ◌++◌, length, map, drop, Option, Some, None, refl, sym, ◌∙◌}
+use Rattle.std.proofs.Common.{ap, subst, arith, append-nil, append_assoc}
 use Rattle.std.specs.Prelude.{slice_set, slice_get, filter}
 use Rattle.std.specs.List.{range_with_len}
 use Rattle.std.proofs.lemmas.Bool.Decides.{nat_tests}
@@ -17,11 +19,17 @@ use Rattle.mb_merge.specs.declared.source.Held.{Held}
 use Rattle.mb_merge.specs.declared.router.Passed.{Passed}
 use Rattle.mb_merge.specs.declared.waiting.Head.{Head}
 use Rattle.mb_merge.specs.Links.{Link, Merger, HasSource, closed_link, link_at, link_of, with_link, is_owned}
-use Rattle.mb_merge.specs.Passing.{has_room, is_realtime_mark, may_pass, ready_by, ready_head, least, passes_now, taken, offered_mark, after_pass, after_head, drained, head_passes, held_passes, offered_passes}
-use Rattle.mb_merge.specs.Calls.{Call, Offer, Next, History, begins, may_offer, one, taken_in, passed_in, after_call, after_calls, in_turn, at_once, waits, waiting, IsClosed, IsFresh, IsSettled, IsOrderly, IsLeast}
+use Rattle.mb_merge.specs.Passing.{has_room, is_realtime_mark, may_pass, ready_by, ready_head, least, passes_now, taken}
+use Rattle.mb_merge.specs.Passing.{offered_mark, after_pass, after_head, drained, head_passes, held_passes}
+use Rattle.mb_merge.specs.Passing.{offered_passes}
+use Rattle.mb_merge.specs.Calls.{Call, Offer, Next, History, begins, may_offer, one, taken_in, passed_in, after_call}
+use Rattle.mb_merge.specs.Calls.{after_calls, in_turn, at_once, waits, waiting, IsClosed, IsFresh, IsSettled, IsOrderly}
+use Rattle.mb_merge.specs.Calls.{IsLeast}
 use Rattle.mb_merge.proofs.LeastLemmas.{least-IsLeast, least_below-none}
 use Rattle.mb_merge.proofs.Flows.{link_at-set_same, link_at-set_other, same_or_not, Suit, NoRealtime}
-use Rattle.mb_merge.proofs.Fits.{not_true, same_number, other_number, Passes, passes-why, waits-why, offer_at, pass_offered, Turn, Fits, held_marks, fits-offer, fits-offered, fits-head, fits-drained}
+use Rattle.mb_merge.proofs.Fits.{not_true, same_number, other_number, Passes, passes-why, waits-why, offer_at}
+use Rattle.mb_merge.proofs.Fits.{pass_offered, Turn, Fits, held_marks, fits-offer, fits-offered, fits-head}
+use Rattle.mb_merge.proofs.Fits.{fits-drained}
 
 -- one passed mark, if a test keeps it
 abbrev kept : Bool → Passed → List Passed

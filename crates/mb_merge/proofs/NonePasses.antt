@@ -1,5 +1,6 @@
 -- No mark passes exactly where none may.
-use Rattle.std.proofs.Common.{◌≡◌, ℕ, ◌<◌, ◌↔◌, Bool, true, false, if◌then◌else◌, List, [], ◌∷◌, length, Option, Some, None, refl, sym, ◌∙◌, ap}
+use Rattle.std.proofs.Common.{◌≡◌, ℕ, ◌<◌, ◌↔◌, Bool, true, false, if◌then◌else◌, List, [], ◌∷◌, length, Option, Some}
+use Rattle.std.proofs.Common.{None, refl, sym, ◌∙◌, ap}
 use Rattle.std.specs.Prelude.{slice_get}
 use Rattle.std.proofs.lemmas.Option.{none-some}
 use Rattle.mb_message.specs.declared.mark.Mark.{Mark}
@@ -7,7 +8,8 @@ use Rattle.mb_merge.specs.declared.source.Held.{Held}
 use Rattle.mb_merge.specs.declared.router.Passed.{Passed}
 use Rattle.mb_merge.specs.declared.waiting.Head.{Head}
 use Rattle.mb_merge.specs.Links.{Link, Merger, link_at, link_of}
-use Rattle.mb_merge.specs.Passing.{head_passes, held_passes, least, may_pass, next_of, offered_passes, ready_by, ready_head}
+use Rattle.mb_merge.specs.Passing.{head_passes, held_passes, least, may_pass, next_of, offered_passes, ready_by}
+use Rattle.mb_merge.specs.Passing.{ready_head}
 use Rattle.mb_merge.specs.Calls.{IsLeast, NoneMayPass}
 use Rattle.mb_merge.proofs.LeastLemmas.{least-IsLeast}
 

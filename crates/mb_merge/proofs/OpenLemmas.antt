@@ -1,12 +1,15 @@
 -- Opening: the faults, and the links at first.
-use Rattle.std.proofs.Common.{◌≡◌, ℕ, ◌<◌, ◌≤◌, inl, inr, Bool, true, false, not, ◌&&◌, nat_lt, if◌then◌else◌, List, [], ◌∷◌, ◌++◌, length, map, get_or, Option, Some, None, refl, sym, ◌∙◌, ap, subst, arith, append-nil, append_assoc}
+use Rattle.std.proofs.Common.{◌≡◌, ℕ, ◌<◌, ◌≤◌, inl, inr, Bool, true, false, not, ◌&&◌, nat_lt, if◌then◌else◌, List, []}
+use Rattle.std.proofs.Common.{◌∷◌, ◌++◌, length, map, get_or, Option, Some, None, refl, sym, ◌∙◌, ap, subst, arith}
+use Rattle.std.proofs.Common.{append-nil, append_assoc}
 use Rattle.std.specs.List.{range_with_len}
 use Rattle.std.proofs.lemmas.List.{same_lists}
 use Rattle.std.proofs.lemmas.List.FromFn.{get_or-map-range_with_len, length-map-range_with_len}
 use Rattle.std.proofs.lemmas.Bool.Decides.{nat_tests}
 use Rattle.std.proofs.lemmas.List.{get_or_default}
 use Rattle.mb_message.specs.declared.Memory.{Memory}
-use Rattle.mb_merge.specs.Opening.{is_count, stands_in, route_fault, first_fault, Refuses, AreRight, IsWrongBy, IsFirstWrong, AreCounts, FaultIs}
+use Rattle.mb_merge.specs.Opening.{is_count, stands_in, route_fault, first_fault, Refuses, AreRight, IsWrongBy}
+use Rattle.mb_merge.specs.Opening.{IsFirstWrong, AreCounts, FaultIs}
 use Rattle.mb_merge.specs.declared.opening.RouterFault.{RouterFault}
 use Rattle.mb_merge.specs.declared.opening.RouterFault.TheVariants as fault
 

@@ -3,7 +3,8 @@
 --   Step start before p      how a mark passes, given those that passed before it
 --   Steps start before ps    each of these marks does
 --   Line start out ms open   whether a SysEx is open on an out, as the sources that go to it have it
-use Rattle.std.proofs.Common.{◌≡◌, ◌≢◌, ℕ, ◌<◌, ◌⊎◌, inl, inr, Bool, true, false, if◌then◌else◌, List, [], ◌∷◌, ◌++◌, length, Option, Some, None, refl, sym, ◌∙◌, ap, ap₂, subst, append-nil, append_assoc}
+use Rattle.std.proofs.Common.{◌≡◌, ◌≢◌, ℕ, ◌<◌, ◌⊎◌, inl, inr, Bool, true, false, if◌then◌else◌, List, [], ◌∷◌, ◌++◌}
+use Rattle.std.proofs.Common.{length, Option, Some, None, refl, sym, ◌∙◌, ap, ap₂, subst, append-nil, append_assoc}
 use Rattle.std.specs.Prelude.{slice_get}
 use Rattle.mb_message.specs.declared.mark.Mark.{Mark}
 use Rattle.mb_message.specs.declared.mark.Mark.TheVariants as mark
@@ -13,7 +14,9 @@ use Rattle.mb_merge.specs.declared.router.Passed.{Passed}
 use Rattle.mb_merge.specs.declared.waiting.Head.{Head}
 use Rattle.mb_merge.specs.Links.{Link, Merger, HasSource, link_of, share}
 use Rattle.mb_merge.specs.Passing.{is_realtime_mark, opens, ready_by, least, head_passes, held_passes, offered_passes}
-use Rattle.mb_merge.specs.Calls.{Call, Offer, Next, History, begins, may_offer, taken_in, passed_in, after_call, after_calls, waits, open_by, goes_to, to_out, AreSuiting, IsFresh, IsLeast, IsTracked, IsUnmixed}
+use Rattle.mb_merge.specs.Calls.{Call, Offer, Next, History, begins, may_offer, taken_in, passed_in, after_call}
+use Rattle.mb_merge.specs.Calls.{after_calls, waits, open_by, goes_to, to_out, AreSuiting, IsFresh, IsLeast, IsTracked}
+use Rattle.mb_merge.specs.Calls.{IsUnmixed}
 use Rattle.mb_merge.proofs.LinkLemmas.{share-at}
 use Rattle.mb_merge.proofs.LeastLemmas.{least-IsLeast}
 use Rattle.mb_merge.proofs.Flows.{same_or_not, NoRealtime, Suit, IsFree, opens-realtime}

@@ -1,5 +1,6 @@
 -- What is kept of each source is what the marks taken and passed say, and its outs stay.
-use Rattle.std.proofs.Common.{◌≡◌, ◌≢◌, ℕ, ◌<◌, ◌⊎◌, inl, inr, Bool, true, false, if◌then◌else◌, List, [], ◌∷◌, ◌++◌, length, Option, Some, None, get_or, refl, sym, ◌∙◌, ap, subst, arith, append-nil}
+use Rattle.std.proofs.Common.{◌≡◌, ◌≢◌, ℕ, ◌<◌, ◌⊎◌, inl, inr, Bool, true, false, if◌then◌else◌, List, [], ◌∷◌, ◌++◌}
+use Rattle.std.proofs.Common.{length, Option, Some, None, get_or, refl, sym, ◌∙◌, ap, subst, arith, append-nil}
 use Rattle.std.specs.Prelude.{slice_set, slice_get}
 use Rattle.std.proofs.lemmas.List.FromFn.{get_or-map-range_with_len, length-map-range_with_len}
 use Rattle.mb_message.specs.declared.mark.Mark.{Mark}
@@ -7,9 +8,11 @@ use Rattle.mb_merge.specs.declared.source.Held.{Held}
 use Rattle.mb_merge.specs.declared.router.Passed.{Passed}
 use Rattle.mb_merge.specs.declared.waiting.Head.{Head}
 use Rattle.mb_merge.specs.Links.{Link, Merger, HasSource, closed_link, link_at, link_of}
-use Rattle.mb_merge.specs.Passing.{opens, least, passes_now, taken, after_pass, after_head, drained, head_passes, held_passes, offered_passes}
+use Rattle.mb_merge.specs.Passing.{opens, least, passes_now, taken, after_pass, after_head, drained, head_passes}
+use Rattle.mb_merge.specs.Passing.{held_passes, offered_passes}
 use Rattle.mb_merge.specs.Opening.{opened, outs_of, stands_in}
-use Rattle.mb_merge.specs.Calls.{Call, Offer, Next, History, begins, may_offer, taken_in, passed_in, after_call, after_calls, waits, open_step, open_from, open_by, IsFresh, IsTracked, IsLeast}
+use Rattle.mb_merge.specs.Calls.{Call, Offer, Next, History, begins, may_offer, taken_in, passed_in, after_call}
+use Rattle.mb_merge.specs.Calls.{after_calls, waits, open_step, open_from, open_by, IsFresh, IsTracked, IsLeast}
 use Rattle.mb_merge.proofs.LeastLemmas.{least-IsLeast}
 use Rattle.mb_merge.proofs.Flows.{link_at-set_same, link_at-set_other, length-links, same_or_not}
 use Rattle.mb_merge.proofs.Fits.{same_number, other_number, offer_at}

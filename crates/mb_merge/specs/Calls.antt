@@ -14,7 +14,8 @@
 --   AreSuiting open ms    the marks may stand one after another, a SysEx being open before them or not
 --   IsUnmixed start ms    what passed to an out may stand there, and no mark but a real-time one stands inside another
 --                         source's SysEx there
-use Rattle.std.specs.Prelude.{slice_index_or, ◌≡◌, ◌≢◌, ℕ, ◌<◌, ◌≤◌, ◌⊎◌, Bool, true, false, not, ◌&&◌, ◌==◌, nat_lt, nat_le, if◌then◌else◌, List, [], ◌∷◌, ◌++◌, length, map, filter, Option, Some, None}
+use Rattle.std.specs.Prelude.{slice_index_or, ◌≡◌, ◌≢◌, ℕ, ◌<◌, ◌≤◌, ◌⊎◌, Bool, true, false, not, ◌&&◌, ◌==◌, nat_lt}
+use Rattle.std.specs.Prelude.{nat_le, if◌then◌else◌, List, [], ◌∷◌, ◌++◌, length, map, filter, Option, Some, None}
 use Rattle.mb_message.specs.declared.mark.Mark.{Mark}
 use Rattle.mb_message.specs.Signs.{sign_of, suits_sign}
 use Rattle.mb_merge.specs.declared.source.Held.{Held}
@@ -92,18 +93,21 @@ pub record IsFresh (m : Merger) : Type 0 where
 -- Two sources with an open SysEx have no out in common.
 pub record IsExclusive (links : List Link) : Type 0 where
   pub apart : (i j : ℕ) → i < length links → j < length links → i ≢ j →
-      (link_at links i).is_open ≡ true → (link_at links j).is_open ≡ true → share (link_at links i).outs (link_at links j).outs ≡ false
+      (link_at links i).is_open ≡ true → (link_at links j).is_open ≡ true →
+      share (link_at links i).outs (link_at links j).outs ≡ false
 
 -- A source that owns its outs holds nothing; a first held mark waits for an out that another source owns.
 pub record IsSettled (m : Merger) : Type 0 where
   pub owners : (source : ℕ) → source < length m.links → (link_of m source).is_open ≡ true → (link_of m source).held ≡ []
-  pub waits_for : (source : ℕ) (h : Held) (hs : List Held) → source < length m.links → (link_of m source).held ≡ h ∷ hs → is_owned m.links source ≡ true
+  pub waits_for : (source : ℕ) (h : Held) (hs : List Held) → source < length m.links →
+      (link_of m source).held ≡ h ∷ hs → is_owned m.links source ≡ true
 
 pub record IsOrderly (h : History) : Type 0 where
   -- what was taken of a source is what has passed, and behind it what waits: none twice, none lost, in its order
   pub turns : (source : ℕ) → filter (in_turn source) h.taken ≡ filter (in_turn source) h.passed ++ waiting h.now source
   -- a real-time mark has passed, or is the one just offered
-  pub realtimes : (source : ℕ) → filter (at_once source) h.taken ≡ filter (at_once source) h.passed ++ filter (at_once source) (one h.now.offered)
+  pub realtimes : (source : ℕ) →
+      filter (at_once source) h.taken ≡ filter (at_once source) h.passed ++ filter (at_once source) (one h.now.offered)
   pub exclusive : IsExclusive h.now.links
   -- a mark just offered is still to pass only while the router is draining
   pub idle : h.now.draining ≡ false → h.now.offered ≡ None
@@ -160,6 +164,7 @@ pub record IsUnmixed (start : Merger) (passed : List Passed) : Type 0 where
   -- whatever sources go to it
   pub suits : (out : ℕ) → AreSuiting false (to_out start out passed)
   -- where another source's SysEx is open, a mark passes only if they have no out in common
-  pub alone : (before after : List Passed) (p : Passed) → passed ≡ before ++ p ∷ after → is_realtime_mark p.mark ≡ false →
+  pub alone : (before after : List Passed) (p : Passed) → passed ≡ before ++ p ∷ after →
+      is_realtime_mark p.mark ≡ false →
       (other : ℕ) → other < length start.links → other ≢ p.source → open_by other before ≡ true →
       share (link_of start other).outs (link_of start p.source).outs ≡ false

@@ -1,19 +1,20 @@
 -- What a router keeps, as a reader can picture it.
 --
 --   Link             a source: which outs it goes to, whether it owns them, and the marks of it that wait
---   Merger           the links, how many outs there are, the mark just offered where it is to pass, and whether marks are
---                    being drained
+--   Merger           the links, how many outs there are, the mark just offered where it is to pass, and whether marks
+--                    are being drained
 --   link_of m s      the link of a source
 --   owns other this  whether a link has an open SysEx on an out of another
 --   is_owned ls s    whether a source other than s owns an out of s
 --   owner_of ls out  the source that owns an out
-use Rattle.std.specs.Prelude.{ℕ, zero, suc, ◌<◌, Bool, false, not, ◌&&◌, ◌||◌, ◌==◌, List, [], length, position, Option, Some, None, slice_index_or, slice_set}
+use Rattle.std.specs.Prelude.{ℕ, zero, suc, ◌<◌, Bool, false, not, ◌&&◌, ◌||◌, ◌==◌, List, [], length, position, Option}
+use Rattle.std.specs.Prelude.{Some, None, slice_index_or, slice_set}
 use Rattle.std.specs.List.{zip, list_any}
 use Rattle.mb_merge.specs.declared.source.Held.{Held}
 use Rattle.mb_merge.specs.declared.router.Passed.{Passed}
 
--- Whether its Open has passed and no End or Abort since; whether the marks taken of it leave a SysEx open; the moment of the
--- last one taken.
+-- Whether its Open has passed and no End or Abort since; whether the marks taken of it leave a SysEx open; the moment
+-- of the last one taken.
 pub record Link : Type 0 where
   pub outs : List Bool
   pub is_open : Bool

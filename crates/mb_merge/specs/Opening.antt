@@ -1,10 +1,11 @@
 -- Opening a router over routes, pairs of a source and an out: the project's own.
 --
---   first_fault sources outs routes     Count where a number isn't 1 to 16; else by the first faulty route Index where one of
---                                       its numbers isn't below its count, or Twice where it stood before
+--   first_fault sources outs routes     Count where a number isn't 1 to 16; else by the first faulty route Index where
+--                                       one of its numbers isn't below its count, or Twice where it stood before
 --   FaultIs sources outs routes f       what each answer means of the numbers and of the first faulty route
 --   opened sources outs routes          the router at first
-use Rattle.std.specs.Prelude.{◌≡◌, ◌<◌, ◌≤◌, ◌⊎◌, ℕ, Bool, true, false, not, ◌&&◌, ◌==◌, nat_lt, nat_le, if◌then◌else◌, List, [], ◌∷◌, ◌++◌, map, Option, Some, None}
+use Rattle.std.specs.Prelude.{◌≡◌, ◌<◌, ◌≤◌, ◌⊎◌, ℕ, Bool, true, false, not, ◌&&◌, ◌==◌, nat_lt, nat_le, if◌then◌else◌}
+use Rattle.std.specs.Prelude.{List, [], ◌∷◌, ◌++◌, map, Option, Some, None}
 use Rattle.std.specs.List.{list_any, range_with_len}
 use Rattle.mb_merge.specs.Links.{Link, Merger, closed_link}
 use Rattle.mb_merge.specs.declared.opening.RouterFault.{RouterFault}
@@ -29,7 +30,8 @@ abbrev pub first_fault : (sources outs : ℕ) → (routes : List (ℕ × ℕ)) �
 first_fault sources outs routes =
     if is_count sources && is_count outs then route_fault sources outs [] routes else Some fault.Count
 
--- Said of the routes: each of these, which stand behind others, has its numbers below the counts, and didn't stand before.
+-- Said of the routes: each of these, which stand behind others, has its numbers below the counts, and didn't stand
+-- before.
 abbrev pub AreRight : (sources outs : ℕ) → (before routes : List (ℕ × ℕ)) → Type 0
 AreRight sources outs before [] = Unit {0}
 AreRight sources outs before (r ∷ rs) =
@@ -56,8 +58,10 @@ AreCounts sources outs = (1 ≤ sources) × (sources ≤ 16) × (1 ≤ outs) × 
 abbrev pub FaultIs : (sources outs : ℕ) → (routes : List (ℕ × ℕ)) → Option RouterFault → Type 0
 FaultIs sources outs routes None = AreCounts sources outs × AreRight sources outs [] routes
 FaultIs sources outs routes (Some fault.Count) = AreCounts sources outs → ⊥
-FaultIs sources outs routes (Some fault.Index) = AreCounts sources outs × IsFirstWrong sources outs [] routes fault.Index
-FaultIs sources outs routes (Some fault.Twice) = AreCounts sources outs × IsFirstWrong sources outs [] routes fault.Twice
+FaultIs sources outs routes (Some fault.Index) = AreCounts sources outs ×
+    IsFirstWrong sources outs [] routes fault.Index
+FaultIs sources outs routes (Some fault.Twice) = AreCounts sources outs ×
+    IsFirstWrong sources outs [] routes fault.Twice
 FaultIs sources outs routes (Some (fault.Memory memory)) = ⊥
 
 abbrev pub outs_of : (source : ℕ) → (routes : List (ℕ × ℕ)) → List Bool

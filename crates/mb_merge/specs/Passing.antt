@@ -1,13 +1,15 @@
--- Which mark passes next: the project's own. A real-time mark always may. The data and the end of a SysEx may where its start
--- has passed. A short message or a start may where no other source owns an out of its source. A mark that isn't real-time also waits for all
--- marks of its own source that are held before it. A mark passes to all outs of its source at once.
+-- Which mark passes next: the project's own. A real-time mark always may. The data and the end of a SysEx may where its
+-- start has passed. A short message or a start may where no other source owns an out of its source. A mark that isn't
+-- real-time also waits for all marks of its own source that are held before it. A mark passes to all outs of its source
+-- at once.
 --
 --   may_pass ls s mark        whether a mark of a source may pass, whatever else of it is held
 --   passes_now m s mark       whether it passes at once when it is offered
 --   offered_in m s t mark     the router after an offer
 --   next_of m                 the mark that passes next, and the router then
 --   to_pass m                 how many marks were taken and haven't passed
-use Rattle.std.specs.Prelude.{ℕ, zero, suc, ◌+◌, Bool, true, false, not, ◌&&◌, ◌||◌, ◌==◌, nat_lt, if◌then◌else◌, List, [], ◌∷◌, ◌++◌, length, drop, Option, Some, None, slice_get, sum_by}
+use Rattle.std.specs.Prelude.{ℕ, zero, suc, ◌+◌, Bool, true, false, not, ◌&&◌, ◌||◌, ◌==◌, nat_lt, if◌then◌else◌, List}
+use Rattle.std.specs.Prelude.{[], ◌∷◌, ◌++◌, length, drop, Option, Some, None, slice_get, sum_by}
 use Rattle.mb_message.specs.declared.mark.Mark.{Mark}
 use Rattle.mb_message.specs.declared.mark.Mark.TheVariants as mark
 use Rattle.mb_merge.specs.declared.source.Held.{Held}
@@ -128,8 +130,8 @@ offered_passes m (Some p) = (
   },
 )
 
--- First the mark just offered, if it may pass; then of the held first marks that may pass the one that arrived first, and of
--- one arrival that of the lowest source. Where none may, the router is drained.
+-- First the mark just offered, if it may pass; then of the held first marks that may pass the one that arrived first,
+-- and of one arrival that of the lowest source. Where none may, the router is drained.
 abbrev pub next_of : Merger → Option Passed × Merger
 next_of m = offered_passes m m.offered
 

@@ -5,12 +5,14 @@ ghost use Rattle.mb_merge.specs.Links.{Link, Merger, is_owned, link_at, link_of,
 ghost use Rattle.mb_message.specs.declared.mark.Mark.{Mark};
 ghost use Rattle.mb_merge.specs.Passing.{has_room, is_realtime_mark, least, next_of, passes_now};
 ghost use Rattle.mb_merge.specs.Opening.{FaultIs, first_fault, opened, stands_in};
-ghost use Rattle.mb_merge.specs.Calls.{Call, IsExclusive, IsFresh, IsLeast, IsOrderly, IsTracked, IsUnmixed, NoneMayPass, after_calls, begins};
+ghost use Rattle.mb_merge.specs.Calls.{Call, IsExclusive, IsFresh, IsLeast, IsOrderly, IsTracked, IsUnmixed};
+ghost use Rattle.mb_merge.specs.Calls.{NoneMayPass, after_calls, begins};
 
-/// From a router of which nothing was taken, whatever is called: no mark passes twice, none is lost, each source's marks pass
-/// in its order but for real-time ones, no two sources that share an out have a SysEx open, and once drained a source that
-/// owns its outs holds nothing, and each first held mark waits for an out that another source owns. What passed to an out may
-/// stand there mark after mark, and no mark but a real-time one stands inside another source's SysEx there.
+/// From a router of which nothing was taken, whatever is called: no mark passes twice, none is lost, each source's
+/// marks pass in its order but for real-time ones, no two sources that share an out have a SysEx open, and once drained
+/// a source that owns its outs holds nothing, and each first held mark waits for an out that another source owns. What
+/// passed to an out may stand there mark after mark, and no mark but a real-time one stands inside another source's
+/// SysEx there.
 pub fn orderly()
     ensures calls { (m : Merger) (calls : List Call) → IsFresh m → IsOrderly (after_calls (begins m) calls) }
     ensures tracked { (m : Merger) (calls : List Call) → IsFresh m → IsTracked m (after_calls (begins m) calls) }
@@ -23,7 +25,8 @@ pub fn least_is_first()
     ensures { (links : List Link) → IsLeast links (least links) }
 {}
 
-/// `next_passed` answers None exactly where no mark may pass: none was just offered that is to, and no first held mark may.
+/// `next_passed` answers None exactly where no mark may pass: none was just offered that is to, and no first held mark
+/// may.
 pub fn none_passes()
     ensures { (m : Merger) → ((next_of m).0 ≡ None) ↔ ((m.offered ≡ None) × NoneMayPass m) }
 {}
@@ -38,16 +41,18 @@ pub fn owners()
         owns_out out (link_at links i) ≡ true → owns_out out (link_at links j) ≡ true → i ≡ j }
 {}
 
-/// What a fault of the opening means: `Count` that a number isn't 1 to 16; or else `Index` and `Twice` that all routes before
-/// one are right, and this one isn't; no fault, that all are right.
+/// What a fault of the opening means: `Count` that a number isn't 1 to 16; or else `Index` and `Twice` that all routes
+/// before one are right, and this one isn't; no fault, that all are right.
 pub fn faults()
-    ensures { (sources outs : ℕ) (routes : List (ℕ × ℕ)) → FaultIs sources outs routes (first_fault sources outs routes) }
+    ensures { (sources outs : ℕ) (routes : List (ℕ × ℕ)) →
+        FaultIs sources outs routes (first_fault sources outs routes) }
 {}
 
 /// A mark is refused exactly where it isn't real-time, may not pass now, and 1,024 marks of its source are held.
 pub fn refusals()
     ensures { (m : Merger) (source : ℕ) (mark : Mark) → (has_room m source mark ≡ false)
-        ↔ ((is_realtime_mark mark ≡ false) × (passes_now m source mark ≡ false) × (1024 ≤ length (link_of m source).held)) }
+        ↔ ((is_realtime_mark mark ≡ false) × (passes_now m source mark ≡ false) ×
+        (1024 ≤ length (link_of m source).held)) }
 {}
 
 /// A router that was opened has so many sources, and goes from a source to an out exactly where that pair is one of the

@@ -1,9 +1,11 @@
 //! The router.
 
-ghost use Rattle.std.specs.Prelude.{◌≡◌, ◌↔◌, ◌<◌, ◌≤◌, List, Bool, true, false, None, length, slice_get, slice_index_or, IsErr, IfErr, OnErr, OnOk, OnSome, MatchResult};
+ghost use Rattle.std.specs.Prelude.{◌≡◌, ◌↔◌, ◌<◌, ◌≤◌, List, Bool, true, false, None, length, slice_get};
+ghost use Rattle.std.specs.Prelude.{slice_index_or, IsErr, IfErr, OnErr, OnOk, OnSome, MatchResult};
 ghost use Rattle.mb_message.specs.Signs.{sign_of, suits_sign};
 ghost use Rattle.mb_merge.specs.Links.{link_of, owner_of};
-ghost use Rattle.mb_merge.specs.Passing.{has_room, head_passes, held_passes, least, next_of, offered_in, offered_mark, passes_now, to_pass};
+ghost use Rattle.mb_merge.specs.Passing.{has_room, head_passes, held_passes, least, next_of, offered_in, offered_mark};
+ghost use Rattle.mb_merge.specs.Passing.{passes_now, to_pass};
 ghost use Rattle.mb_merge.specs.Opening.{Opens, Refuses};
 
 use crate::opening::{RouterFault, first_fault, sources_of};
@@ -43,9 +45,9 @@ impl Model for Router {
 }
 
 impl Router {
-    /// A router over the routes, pairs of a source and an out. `Count` where there are not 1 to 16 sources and outs; then by
-    /// the first faulty route `Index` where one of its numbers isn't below its count, or `Twice` where it stood before;
-    /// then `Memory`.
+    /// A router over the routes, pairs of a source and an out. `Count` where there are not 1 to 16 sources and outs;
+    /// then by the first faulty route `Index` where one of its numbers isn't below its count, or `Twice` where it stood
+    /// before; then `Memory`.
     pub fn open(
         alloc: Global,
         sources: u8,
@@ -86,8 +88,9 @@ impl Router {
                 && may_pass(&self.sources, source as usize, mark))
     }
 
-    /// Takes a mark, to pass now or to be held. `Full` where the mark isn't real-time, may not pass now, and 1,024 marks of
-    /// this source are held; then nothing changed. Moments are in milliseconds or microseconds, as the caller likes.
+    /// Takes a mark, to pass now or to be held. `Full` where the mark isn't real-time, may not pass now, and 1,024
+    /// marks of this source are held; then nothing changed. Moments are in milliseconds or microseconds, as the caller
+    /// likes.
     pub fn offer(&mut self, source: u8, moment: u64, mark: Mark) -> Result<(), Full>
         requires source { source < length self.old.links }
         requires suits { suits_sign (link_of self.old source).in_sysex (sign_of mark) ≡ true }
@@ -106,8 +109,9 @@ impl Router {
         Ok(())
     }
 
-    /// The mark that passes next: first the one just offered, if it may pass; then of the held first marks that may pass the
-    /// one that arrived first, and of one arrival that of the lowest source. `None` exactly where none may pass.
+    /// The mark that passes next: first the one just offered, if it may pass; then of the held first marks that may
+    /// pass the one that arrived first, and of one arrival that of the lowest source. `None` exactly where none may
+    /// pass.
     pub fn next_passed(&mut self) -> Option<Passed>
         ensures passed { result ≡ (next_of self.old).0 }
         ensures state { self.new ≡ (next_of self.old).1 }

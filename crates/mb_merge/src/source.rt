@@ -1,6 +1,7 @@
 //! A source of marks: which outs it goes to, whether it owns them, and the marks of it that wait.
 
-ghost use Rattle.std.specs.Prelude.{◌≡◌, ◌↔◌, ◌<◌, ◌≤◌, ◌==◌, false, length, slice_get, slice_index_or, IsErr, IfErr, IfNone, IfOk, IfSome, OnErr, OnOk};
+ghost use Rattle.std.specs.Prelude.{◌≡◌, ◌↔◌, ◌<◌, ◌≤◌, ◌==◌, false, length, slice_get, slice_index_or, IsErr, IfErr};
+ghost use Rattle.std.specs.Prelude.{IfNone, IfOk, IfSome, OnErr, OnOk};
 ghost use Rattle.mb_message.specs.Signs.{sign_of, suits_sign};
 ghost use Rattle.mb_merge.specs.Links.{closed_link, owns, owns_out, share};
 ghost use Rattle.mb_merge.specs.Passing.{after_head, after_pass, has_room_in, opens, taken};
@@ -41,7 +42,13 @@ impl Model for Source {
 
     ghost Value = { Link };
 
-    ghost view = { λ s. record { outs = s.outs; is_open = s.is_open; in_sysex = s.in_sysex; last = s.last; held = s.held.items } };
+    ghost view = { λ s. record {
+      outs = s.outs;
+      is_open = s.is_open;
+      in_sysex = s.in_sysex;
+      last = s.last;
+      held = s.held.items;
+    } };
 
     ghost invariant = { λ s. s.held.capacity ≡ 1024 };
 }

@@ -7,7 +7,11 @@ use Rattle.mb_outside.specs.Contents.{Contents, with_entry, after_read, after_wr
 
 pub same_contents : (a b : Contents) → ((h : ℕ) → a.left h ≡ b.left h) → ((h : ℕ) → a.taken h ≡ b.taken h) →
     ((h : ℕ) → a.written h ≡ b.written h) → a ≡ b
-same_contents a b left taken written = λ i. record { left = λ h. left h i; taken = λ h. taken h i; written = λ h. written h i }
+same_contents a b left taken written = λ i. record {
+  left = λ h. left h i;
+  taken = λ h. taken h i;
+  written = λ h. written h i;
+}
 
 -- an entry that is put where it stands
 pub with_entry-same : (entries : ℕ → List ℕ) (handle : ℕ) (bytes : List ℕ) (other : ℕ) → bytes ≡ entries handle →

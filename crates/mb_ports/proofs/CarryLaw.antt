@@ -1,5 +1,5 @@
--- The third step of a reader of packets: bytes of one port, which its byte-stream reader takes a front of. What that promises of the
--- port's payload, all readers together promise of all ports.
+-- The third step of a reader of packets: bytes of one port, which its byte-stream reader takes a front of. What that
+-- promises of the port's payload, all readers together promise of all ports.
 use Rattle.std.proofs.Common.{◌≡◌, ℕ, ◌+◌, ◌-◌, ◌<◌, ◌≤◌, ◌⊎◌, inl, inr, false, ◌==◌, Some, List, [], ◌∷◌, ◌++◌, length, map, refl, sym, ◌∙◌, ap, ap₂, subst, arith, append_assoc, append-nil, length-append}
 use Rattle.std.proofs.lemmas.List.{append_cancel_left, append_cancel_right}
 use Rattle.std.proofs.lemmas.Bool.Decides.{nat_tests}

@@ -1,5 +1,5 @@
--- A reader of one port alone, from the law of several: with one port, what was told is a front of what is known if its parts
--- without their ports are.
+-- A reader of one port alone, from the law of several: with one port, what was told is a front of what is known if its
+-- parts without their ports are.
 use Rattle.std.proofs.Common.{◌≡◌, ℕ, ◌+◌, ◌-◌, ◌<◌, Bool, true, false, if◌then◌else◌, Option, Some, List, [], ◌∷◌, ◌++◌, length, map, refl, sym, ◌∙◌, ap, ap₂, subst, arith, append_assoc, append-nil}
 use Rattle.std.proofs.lemmas.List.{append_cancel_left}
 use Rattle.mb_message.specs.declared.note.Note.{Note}
@@ -16,7 +16,7 @@ use Rattle.mb_stream.specs.ReaderLaw.{Goes, Tells, AllTold, bare_told}
 use Rattle.mb_ports.specs.OnePort.{one_known, HoldsOne}
 use Rattle.mb_ports.proofs.PortsLaw.{rises-back, last_groups, ports_so_far-append}
 use Rattle.mb_ports.proofs.MachineLaw.{events_from-append, LowPorts, events-rise, Headed, of_note, of_port, news-head}
-use Rattle.mb_ports.proofs.ReaderLaw.{whole, AheadAt, stands-ahead, events-more, map-nil, finish-stands}
+use Rattle.mb_ports.proofs.ReaderLaw.{whole, AheadAt, stands-ahead, events-more, map-nil, finish-stands, anew-holds}
 
 -- Order without ports.
 
@@ -149,10 +149,9 @@ one-stays m lows bytes more =
     ap (ports_so_far 1) all ∙ ports_so_far-append 1 0 (events m bytes) (events_from m (under_from m m.start bytes) (0 + length bytes) more) (subst (EventsRise 1 0) all (events-rise m 1 lows m.start 0 0 (bytes ++ more) (omega arith))) in
     (map known_of news, ap (map known_of) known ∙ known-append (all_known m 1 bytes) news)
 
--- where all is told, the port's reader stands for the port's payload
-pub finish-one : {U : Type 0} (m : Machine U) → LowPorts m 1 → (now : Whole U) (bytes : List ℕ) → HoldsOne m now bytes (one_known m bytes) →
-    Stands (now.readers 0) (port_payload 0 (events m bytes)) (so_far (port_payload 0 (events m bytes)))
-finish-one m lows now bytes h =
+-- where all is told, all is told with ports
+all-ports : {U : Type 0} (m : Machine U) → LowPorts m 1 → (now : Whole U) (bytes : List ℕ) → HoldsOne m now bytes (one_known m bytes) → Holds m 1 now bytes (all_known m 1 bytes)
+all-ports m lows now bytes h =
     let same : all_known m 1 (bytes ++ []) ≡ all_known m 1 bytes = ap (all_known m 1) (append-nil bytes) in
     let known : map known_of (all_known m 1 (bytes ++ [])) ≡ map known_of h.with_port = ap (map known_of) same ∙ h.told_is in
     let f : IsFront h.with_port (all_known m 1 (bytes ++ [])) =
@@ -162,4 +161,23 @@ finish-one m lows now bytes h =
     (sym (known-append h.with_port f.0) ∙ (sym (ap (map known_of) f.1) ∙ (known ∙ sym (append-nil (map known_of h.with_port))))) in
     let all : h.with_port ≡ all_known m 1 bytes =
     sym (append-nil h.with_port) ∙ (ap (λ z. h.with_port ++ z) (sym (map-nil known_of f.0 rest)) ∙ (sym f.1 ∙ same)) in
-    finish-stands m 1 lows now.offset now.under now.due now.readers bytes (subst (Holds m 1 now bytes) all h.holds) 0 (omega arith)
+    subst (Holds m 1 now bytes) all h.holds
+
+-- where all is told, the port's reader stands for the port's payload
+pub finish-one : {U : Type 0} (m : Machine U) → LowPorts m 1 → (now : Whole U) (bytes : List ℕ) → HoldsOne m now bytes (one_known m bytes) →
+    Stands (now.readers 0) (port_payload 0 (events m bytes)) (so_far (port_payload 0 (events m bytes)))
+finish-one m lows now bytes h =
+    finish-stands m 1 lows now.offset now.under now.due now.readers bytes (all-ports m lows now bytes h) 0 (omega arith)
+
+-- and where the reader begins anew, it stands for a recording of the same length in which its port carries nothing
+pub anew-one : {U : Type 0} (m : Machine U) → LowPorts m 1 → (o : ℕ) (u : U) (due : List Note) (rs now : ℕ → State) (bytes instead : List ℕ) →
+    HoldsOne m (whole o u due rs) bytes (one_known m bytes) → length instead ≡ length bytes → under_from m m.start instead ≡ under_from m m.start bytes →
+    port_payload 0 (events m instead) ≡ [] → Stands (now 0) [] [] → HoldsOne m (whole o u due now) instead (one_known m instead)
+anew-one m lows o u due rs now bytes instead h lengths same silent fresh = record {
+  with_port = all_known m 1 instead;
+  holds =
+      anew-holds m 1 lows o u due rs now bytes instead 0 (omega arith) (all-ports m lows (whole o u due rs) bytes h) lengths same silent
+      (λ c low apart. let none : c ≡ 0 = omega arith in absurd (apart none)) fresh
+      (λ c low apart. let none : c ≡ 0 = omega arith in absurd (apart none));
+  told_is = refl;
+}

@@ -11,9 +11,9 @@ use Rattle.mb_message.specs.Bytes.{is_data, is_realtime}
 use Rattle.mb_stream.specs.Payload.{Spot, Entry, Heard, Silent, realtime}
 use Rattle.mb_stream.specs.Groups.{Group, no_group, longer, begun, last_of}
 use Rattle.mb_stream.specs.Told.{Known, realtime_known, ended, status_told}
-use Rattle.mb_stream.specs.Order.{not_after, put_in, in_order}
+use Rattle.mb_stream.specs.Order.{Each, not_after, put_in, in_order}
 use Rattle.mb_stream.specs.Working.{news, behind, data_news, group_after, RisesFrom}
-use Rattle.mb_stream.proofs.OrderLemmas.{Each, Each-append, Each-implies, Each-in_order, Late, Climb, in_order-climb, put_in-first}
+use Rattle.mb_stream.proofs.OrderLemmas.{Each-append, Each-implies, Each-in_order, Late, Climb, in_order-climb, put_in-first}
 use Rattle.mb_stream.proofs.NewsLaw.{later, later_by, told-from, later-From, realtime-From, news-climbs, From, last_of-after}
 use Rattle.mb_ports.specs.Events.{Event, Carried, Remarked, port_payload, unit_notes, Ported, ported, unported, known_of, below_from, below, port_told, ports_so_far, one_more, ports_news, EventsRise}
 

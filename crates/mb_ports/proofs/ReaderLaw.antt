@@ -3,6 +3,7 @@
 --   tells-due, tells-pass        the two steps
 --   all_told-none                where the input is used up, all is told
 --   finish-stands, start-holds   the end, and the beginning
+--   anew-holds                   one port's reader begins anew
 use Rattle.std.proofs.Common.{◌≡◌, ℕ, ◌+◌, ◌-◌, ◌<◌, inl, inr, Bool, true, false, ◌==◌, Option, Some, None, List, [], ◌∷◌, ◌++◌, length, map, refl, sym, ◌∙◌, ap, subst, arith, append_assoc, append-nil, length-append}
 use Rattle.std.proofs.lemmas.List.{append_cancel_left}
 use Rattle.std.proofs.lemmas.Bool.Decides.{nat_tests}
@@ -229,10 +230,15 @@ start-holds m n rs some fresh =
       rested = inr refl;
     }
 
--- where all is told, each port's reader stands for the port's payload
-pub finish-stands : {U : Type 0} (m : Machine U) (n : ℕ) → LowPorts m n → (o : ℕ) (u : U) (due : List Note) (rs : ℕ → State) (bytes : List ℕ) → Holds m n (whole o u due rs) bytes (all_known m n bytes) →
-    (c : ℕ) → c < n → Stands (rs c) (port_payload c (events m bytes)) (so_far (port_payload c (events m bytes)))
-finish-stands m n lows o u due rs bytes h c below =
+-- notes that are to be told make something known
+undue : (gs : ℕ → Group) (at : ℕ) (due : List Note) → [] ≡ ports_news gs (remarked at due) → due ≡ []
+undue gs at [] e = refl
+undue gs at (x ∷ xs) e = cc
+
+-- where all is told, nothing was told ahead, and no note is to be told
+pub all_told-rests : {U : Type 0} (m : Machine U) (n : ℕ) → LowPorts m n → (o : ℕ) (u : U) (due : List Note) (rs : ℕ → State) (bytes : List ℕ) →
+    (h : Holds m n (whole o u due rs) bytes (all_known m n bytes)) → (h.stand.ahead ≡ []) × (due ≡ [])
+all_told-rests m n lows o u due rs bytes h =
     let s = h.stand in
     let known : all_known m n bytes ≡ ports_so_far n h.taken ++ ports_news (last_groups h.taken) (remarked (o - 1) due) =
     ap (ports_so_far n) h.events_are ∙ ports_so_far-append n 0 h.taken (remarked (o - 1) due) (subst (EventsRise n 0) h.events_are (events-rise m n lows m.start 0 0 bytes (omega arith))) in
@@ -241,9 +247,43 @@ finish-stands m n lows o u due rs bytes h c below =
       | inl e ↦ map-nil (ported s.port) s.ahead (same ∙ ap (λ z. ports_news (last_groups h.taken) (remarked (o - 1) z)) e)
       | inr e ↦ e
     ] in
+    (none, undue (last_groups h.taken) (o - 1) due (sym (ap (map (ported s.port)) none) ∙ same))
+
+-- where all is told, each port's reader stands for the port's payload
+pub finish-stands : {U : Type 0} (m : Machine U) (n : ℕ) → LowPorts m n → (o : ℕ) (u : U) (due : List Note) (rs : ℕ → State) (bytes : List ℕ) → Holds m n (whole o u due rs) bytes (all_known m n bytes) →
+    (c : ℕ) → c < n → Stands (rs c) (port_payload c (events m bytes)) (so_far (port_payload c (events m bytes)))
+finish-stands m n lows o u due rs bytes h c below =
+    let rests : (h.stand.ahead ≡ []) × (due ≡ []) = all_told-rests m n lows o u due rs bytes h in
     let payload : port_payload c h.taken ≡ port_payload c (events m bytes) =
     sym (ap (port_payload c) h.events_are ∙ (port_payload-append c h.taken (remarked (o - 1) due) ∙ (ap (λ z. port_payload c h.taken ++ z) (port_payload-notes c (o - 1) due) ∙ append-nil (port_payload c h.taken)))) in
-    subst (λ es. Stands (rs c) es (so_far es)) payload (every-stands n rs h.taken (all_known m n bytes) s none c below)
+    subst (λ es. Stands (rs c) es (so_far es)) payload (every-stands n rs h.taken (all_known m n bytes) h.stand rests.0 c below)
+
+-- One port's reader begins anew where all was told: it stands for a recording of the same length and with the same
+-- packet under way, in which that port carries nothing and each other what it carried.
+pub anew-holds : {U : Type 0} (m : Machine U) (n : ℕ) → LowPorts m n → (o : ℕ) (u : U) (due : List Note) (rs now : ℕ → State) (bytes instead : List ℕ) (p : ℕ) → p < n →
+    Holds m n (whole o u due rs) bytes (all_known m n bytes) → length instead ≡ length bytes → under_from m m.start instead ≡ under_from m m.start bytes →
+    port_payload p (events m instead) ≡ [] → ((c : ℕ) → c < n → (c ≡ p → ⊥) → port_payload c (events m instead) ≡ port_payload c (events m bytes)) →
+    Stands (now p) [] [] → ((c : ℕ) → c < n → (c ≡ p → ⊥) → now c ≡ rs c) → Holds m n (whole o u due now) instead (all_known m n instead)
+anew-holds m n lows o u due rs now bytes instead p below h lengths same silent payloads fresh others =
+    let rests : (h.stand.ahead ≡ []) × (due ≡ []) = all_told-rests m n lows o u due rs bytes h in
+    record {
+      offset = h.offset ∙ sym lengths;
+      under = h.under ∙ sym same;
+      taken = events m instead;
+      events_are = sym (ap (λ z. events m instead ++ remarked (o - 1) z) rests.1 ∙ append-nil (events m instead));
+      stand = record {
+        port = p;
+        below = below;
+        ahead = [];
+        told_is = sym (append-nil (all_known m n instead));
+        own = subst (λ es. Stands (now p) es (so_far es ++ [])) (sym silent) fresh;
+        others = λ c low apart.
+            subst (λ (s : State). Stands s (port_payload c (events m instead)) (so_far (port_payload c (events m instead)))) (sym (others c low apart))
+            (subst (λ es. Stands (rs c) es (so_far es)) (sym (payloads c low apart)) (finish-stands m n lows o u due rs bytes h c low));
+      };
+      here = inl refl;
+      rested = inl rests.1;
+    }
 
 -- the marks of what one port's reader tells
 pub port_signs-port : (c : ℕ) (ts : List Told) → port_signs (map (λ t. (Some c, t)) ts) ≡ told_signs ts

@@ -5,10 +5,11 @@
 --   port_payload c es       the byte stream of a port
 --   Ported                  what becomes known, of a port or of a packet
 --   ports_so_far n es       the readings of ports 0 to n - 1 and the notes, in one list, in order
---   ports_news gs es        the same event by event, by the last group of each port: no second definition, a law says that
---                           both are equal where offsets rise
+--   ports_news gs es        the same event by event, by the last group of each port: no second definition, a law says
+--                           that both are equal where offsets rise
 --   EventsRise n low es     ports are below n, offsets rise from low on
-use Rattle.std.specs.Prelude.{◌≡◌, ℕ, zero, suc, ◌+◌, ◌<◌, ◌≤◌, List, [], ◌∷◌, ◌++◌, map, flat_map, Option, Some, None, ◌==◌, if◌then◌else◌}
+use Rattle.std.specs.Prelude.{◌≡◌, ℕ, zero, suc, ◌+◌, ◌<◌, ◌≤◌, List, [], ◌∷◌, ◌++◌, map, flat_map, Option, Some, None}
+use Rattle.std.specs.Prelude.{◌==◌, if◌then◌else◌}
 use Rattle.mb_stream.specs.Payload.{Spot, Entry, Heard}
 use Rattle.mb_stream.specs.Groups.{Group}
 use Rattle.mb_stream.specs.Told.{Known}

@@ -1,12 +1,13 @@
--- A reader of packets, byte by byte: what each byte makes of the packet under way, which port's byte it is, and which notes on
--- packets it makes known. That is all that the laws need of a carrier. Of the port's bytes alone, what MIDI 1.0 Detailed Specification 4.2
--- says of a byte stream holds.
+-- A reader of packets, byte by byte: what each byte makes of the packet under way, which port's byte it is, and which
+-- notes on packets it makes known. That is all that the laws need of a carrier. Of the port's bytes alone, what MIDI
+-- 1.0 Detailed Specification 4.2 says of a byte stream holds.
 --
 --   Machine U                 a carrier's packets, U being what is kept of the packet under way
 --   events m bytes            a recording's events
 --   under_from m u bytes      the packet under way behind bytes
 --   due_after m u due at bs   the notes that the last of the bytes makes known
---   Steady m u p room         the next bytes, as many as there is room for, are this port's, and a note comes at the last alone
+--   Steady m u p room         the next bytes, as many as there is room for, are this port's, and a note comes at the
+--                             last alone
 use Rattle.std.specs.Prelude.{◌≡◌, ℕ, zero, suc, ◌+◌, List, [], ◌∷◌, ◌++◌, Option, Some, None}
 use Rattle.mb_message.specs.declared.note.Note.{Note}
 use Rattle.mb_stream.specs.Payload.{Spot}
@@ -55,4 +56,5 @@ due_after m u due at (b ∷ bs) = due_after m (m.after u b) (m.notes u b at) (at
 abbrev pub Steady : {U : Type 0} → Machine U → U → ℕ → ℕ → Type 0
 Steady m u p zero = Unit {0}
 Steady m u p (suc zero) = m.port u ≡ Some p
-Steady m u p (suc (suc room)) = (m.port u ≡ Some p) × ((b at : ℕ) → m.notes u b at ≡ []) × ((b : ℕ) → Steady m (m.after u b) p (suc room))
+Steady m u p (suc (suc room)) = (m.port u ≡ Some p) × ((b at : ℕ) → m.notes u b at ≡ []) ×
+    ((b : ℕ) → Steady m (m.after u b) p (suc room))

@@ -28,18 +28,20 @@ pub record Whole (U : Type 0) : Type 0 where
   pub due : List Note
   pub readers : ℕ → State
 
--- All that is known of the events was told in its order, and perhaps what the next byte of one port made known before it
--- was taken. Each port's reader stands for the port's payload and what was told of it.
+-- All that is known of the events was told in its order, and perhaps what the next byte of one port made known before
+-- it was taken. Each port's reader stands for the port's payload and what was told of it.
 pub record PortsStand (n : ℕ) (readers : ℕ → State) (taken : List Event) (told : List Ported) : Type 0 where
   pub port : ℕ
   pub below : port < n
   pub ahead : List Known
   pub told_is : told ≡ ports_so_far n taken ++ map (ported port) ahead
   pub own : Stands (readers port) (port_payload port taken) (so_far (port_payload port taken) ++ ahead)
-  pub others : (c : ℕ) → c < n → (c ≡ port → ⊥) → Stands (readers c) (port_payload c taken) (so_far (port_payload c taken))
+  pub others : (c : ℕ) → c < n → (c ≡ port → ⊥) →
+      Stands (readers c) (port_payload c taken) (so_far (port_payload c taken))
 
 -- notes that are to be told are known of the bytes, and aren't told yet
-pub record Holds {U : Type 0} (m : Machine U) (n : ℕ) (now : Whole U) (bytes : List ℕ) (told : List Ported) : Type 0 where
+pub record Holds {U : Type 0} (m : Machine U) (n : ℕ) (now : Whole U) (bytes : List ℕ)
+    (told : List Ported) : Type 0 where
   pub offset : now.offset ≡ length bytes
   pub under : now.under ≡ under_from m m.start bytes
   pub taken : List Event

@@ -1,5 +1,5 @@
--- The texts of lines. They are the project's own; a byte is written as the MIDI 1.0 Detailed Specification writes it, by two
--- hexadecimal digits. A number is in decimal, as std's `{}` writes it: without leading zeros, 0 as one digit.
+-- The texts of lines. They are the project's own; a byte is written as the MIDI 1.0 Detailed Specification writes it,
+-- by two hexadecimal digits. A number is in decimal, as std's `{}` writes it: without leading zeros, 0 as one digit.
 --
 --   hex_digit d                   a digit, `0` to `9` and `A` to `F`
 --   spaced_bytes bs               each byte behind a space
@@ -7,11 +7,14 @@
 --   mark_text moment sign         the line of a mark: `MOMENT short B1 B2 B3`
 --   kind_text kind                the word of a note
 --   note_text traced at kind      the line of a note: `AT KIND`, or `note AT KIND` among marks
-use Rattle.std.specs.Prelude.{ℕ, ◌+◌, ◌-◌, ◌/◌, ◌%◌, nat_lt, Bool, if◌then◌else◌, List, [], ◌∷◌, ◌++◌, flat_map, take, codes, decimal}
+use Rattle.std.specs.Prelude.{ℕ, ◌+◌, ◌-◌, ◌/◌, ◌%◌, nat_lt, Bool, if◌then◌else◌, List, [], ◌∷◌, ◌++◌, flat_map, take}
+use Rattle.std.specs.Prelude.{codes, decimal}
 use Rattle.mb_message.specs.Bytes.{length_of_short}
 use Rattle.mb_message.specs.Signs.{Sign, ShortSign, RtSign, OpenSign, ByteSign, EndSign, AbortSign}
 use Rattle.mb_message.specs.declared.note.NoteKind.{NoteKind}
-use Rattle.mb_message.specs.declared.note.NoteKind.TheVariants.{StrayData, Truncated, StrayEnd, Undefined, ReservedCin, CinMismatch, BadHeader, EmptyPacket, LoneStamp, BadCip, ZeroDbs, Ragged, NoMidiQuadlet, DbcGap}
+use Rattle.mb_message.specs.declared.note.NoteKind.TheVariants.{StrayData, Truncated, StrayEnd, Undefined, ReservedCin}
+use Rattle.mb_message.specs.declared.note.NoteKind.TheVariants.{CinMismatch, BadHeader, EmptyPacket, LoneStamp, BadCip}
+use Rattle.mb_message.specs.declared.note.NoteKind.TheVariants.{ZeroDbs, Ragged, NoMidiQuadlet, DbcGap}
 
 -- 48 is `0`, 65 is `A`.
 abbrev pub hex_digit : ℕ → ℕ

@@ -1,6 +1,7 @@
 //! Lines of text about what a recording carries: of a mark, and of a note; and numbers in text.
 //!
-//! A line stands in a buffer of fixed size that holds the longest one. What it says to the byte is in `specs/Lines.antt`.
+//! A line stands in a buffer of fixed size that holds the longest one. What it says to the byte is in
+//! `specs/Lines.antt`.
 #![tactic(auto)]
 
 mod lines;

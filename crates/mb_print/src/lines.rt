@@ -12,8 +12,8 @@ use mb_message::{Mark, Note, NoteKind, Short};
 /// One line of text, in bytes. The longest, of a note among marks, has 42.
 pub type Line = ArrayVec<u8, 96>;
 
-/// Writes the line of a mark: `MOMENT short B1 [B2 [B3]]`, `MOMENT rt B`, `MOMENT open`, `MOMENT data B`, `MOMENT end` or
-/// `MOMENT abort`, and a line feed. The line is empty at the start.
+/// Writes the line of a mark: `MOMENT short B1 [B2 [B3]]`, `MOMENT rt B`, `MOMENT open`, `MOMENT data B`, `MOMENT end`
+/// or `MOMENT abort`, and a line feed. The line is empty at the start.
 pub fn mark_line(moment: u64, mark: Mark, out: &mut Line)
     requires { out.old.items ≡ [] }
     ensures line { out.new.items ≡ mark_text moment (sign_of mark) }
@@ -25,8 +25,8 @@ pub fn mark_line(moment: u64, mark: Mark, out: &mut Line)
     out.push(b'\n');
 }
 
-/// Writes the line of a note: `AT KIND`, or `note AT KIND` where marks are traced too, and a line feed. The line is empty
-/// at the start.
+/// Writes the line of a note: `AT KIND`, or `note AT KIND` where marks are traced too, and a line feed. The line is
+/// empty at the start.
 pub fn note_line(note: Note, traced: bool, out: &mut Line)
     requires { out.old.items ≡ [] }
     ensures line { out.new.items ≡ note_text traced note.at note.kind }

@@ -11,7 +11,7 @@
 --   breaks told            a message that was begun, or a SysEx, is broken by the next status
 --   has_short told         a short message is among it
 --   begins_run told        a byte of a SysEx is the first of it
---   StatusNext left        a status begins the list
+--   StatusNext left        a status that isn't real-time begins the list
 --   NoDataNext left        no data byte begins it
 --   IsLongest left seen    a run is the longest that stands side by side in the input
 use Rattle.std.specs.Prelude.{◌≡◌, ℕ, Bool, true, false, List, [], ◌∷◌, ◌++◌, map, Option, Some, None}
@@ -19,7 +19,7 @@ use Rattle.mb_message.specs.declared.note.NoteKind.TheVariants.{Truncated}
 use Rattle.mb_message.specs.declared.event.Seen.{Seen}
 use Rattle.mb_message.specs.declared.event.Seen.TheVariants as seen
 use Rattle.mb_message.specs.declared.event.Ev.TheVariants as event
-use Rattle.mb_message.specs.Bytes.{is_data}
+use Rattle.mb_message.specs.Bytes.{is_data, is_status}
 use Rattle.mb_message.specs.Front.{IsFront}
 use Rattle.mb_message.specs.Signs.{ShortSign, ByteSign, AbortSign, signs_of_event}
 use Rattle.mb_stream.specs.Told.{Told, Marks, Notes, Known}
@@ -75,7 +75,7 @@ begins_run _ = false
 
 abbrev pub StatusNext : List ℕ → Type 0
 StatusNext [] = ⊥
-StatusNext (b ∷ bs) = is_data b ≡ false
+StatusNext (b ∷ bs) = is_status b ≡ true
 
 abbrev pub NoDataNext : List ℕ → Type 0
 NoDataNext [] = Unit {0}

@@ -1,16 +1,13 @@
 -- From what a command did to what the caller sees.
-use Rattle.std.proofs.Common.{◌≡◌, Bool, IsTrue, ℕ, ◌+◌, ◌<◌, ◌≤◌, ◌↔◌, ◌==◌, ◌||◌, if◌then◌else◌, true, false, List}
+use Rattle.std.proofs.Common.{◌≡◌, Bool, ℕ, ◌+◌, ◌<◌, ◌≤◌, ◌↔◌, ◌==◌, ◌||◌, if◌then◌else◌, true, false, List}
 use Rattle.std.proofs.Common.{[], ◌++◌, length, take, drop, refl, sym, ◌∙◌, ap, subst, inl, inr, ◌⊎◌, arith}
 use Rattle.std.proofs.Common.{length-append}
-use Rattle.std.specs.Prelude.{Result, Ok, Err, OnOk, OnErr}
 use Rattle.std.proofs.lemmas.Bool.Decides.{nat_tests}
 use Rattle.std.proofs.lemmas.List.{append-nil, take_at, drop_at}
 use Rattle.mb_outside.specs.Cause.{Rose}
 use Rattle.mb_outside.specs.Contents.{Contents, with_entry, after_read, after_write}
 use Rattle.mb_outside.specs.ContentsLaws.{after_write-none, after_write-twice, after_read-none}
-use Rattle.mb_message.specs.Front.{IsFront, IsPart}
-use Rattle.mb_outside.specs.Taking.{Wrote}
-use Rattle.mb_outside.specs.TakingLaws.{part-front, part-differs}
+use Rattle.mb_message.specs.Front.{IsFront}
 use Rattle.mb_carrier.specs.Carrier.{whole}
 use Rattle.mb_carrier.specs.declared.spec.Spec.{Spec}
 use Rattle.mb_words.specs.Command.{Command, Converting, Listing, Means}
@@ -26,30 +23,6 @@ use Rattle.mb_top.specs.declared.status.Stop.{Stop}
 use Rattle.mb_carrier.specs.Conversion.{through}
 use Rattle.mb_carrier.specs.declared.spec.Spec.TheVariants.{Din}
 use Rattle.mb_carrier.proofs.ConversionLemmas.{through-canonical}
-
--- a text was written as far as writing went
-pub said : {T E S : Type 0} (r : Result T E) (tells : Bool) (contents : S → Contents) (read_faults : S → ℕ)
-    (before after : S) (text : List ℕ) (rose same : Type 0) →
-    OnOk r (Wrote tells contents read_faults 2 before text after) →
-    OnErr r ((front : List ℕ) × IsPart front text × Wrote tells contents read_faults 2 before front after) →
-    OnErr r rose → OnOk r same → IsTrue tells →
-    (words : List ℕ) × (contents after ≡ after_write 2 words (contents before)) × Says rose words text ×
-    (words ≡ text → same)
-said (Ok x) tells contents read_faults before after text rose same ok err cause sound t =
-    (text, ok.contents_are t, record { front = ([], sym (append-nil text)); all = inl refl }, λ whole. sound)
-said (Err x) tells contents read_faults before after text rose same ok err cause sound t = (
-  err.0,
-  (err.2).contents_are t,
-  record { front = part-front err.0 text err.1; all = inr cause },
-  λ whole. absurd (part-differs err.0 text err.1 whole),
-)
-
--- of an empty text nothing is written
-pub none_said : (contents : Contents) (text : List ℕ) (rose : Type 0) (faults : ℕ) → text ≡ [] →
-    (words : List ℕ) × (contents ≡ after_write 2 words contents) × Says rose words text ×
-    (words ≡ text → faults ≡ faults)
-none_said contents text rose faults none =
-    ([], sym (after_write-none 2 contents), record { front = (text, refl); all = inl (sym none) }, λ whole. refl)
 
 wrong : true ≡ false → ⊥
 wrong e = cc

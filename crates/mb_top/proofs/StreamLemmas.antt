@@ -237,7 +237,7 @@ end-halted c before now bytes was took stands h wrote =
       contents = wrote ∙ sym (after_write-none 2 (after_write 1 h.given before));
       ends = λ limit below. record {
         front = part-front _ _ (h.part bytes stands);
-        known = known-front c bytes h.given;
+        at_least = known-front c bytes h.given;
         tally_front = (tally_of c bytes, refl);
         behind = inl refl;
         unfinished = λ all told. part-differs _ _ (h.part bytes stands) all;
@@ -257,7 +257,7 @@ tell-halted c d before mid now bytes was done noted took tells same_command stan
       contents = told ∙ ap (after_write 2 h.given) wrote;
       ends = λ limit below. record {
         front = ([], e.beyond bytes stands ∙ sym (append-nil (live_output_of c bytes ++ e.given)));
-        known = known-front c bytes e.given;
+        at_least = known-front c bytes e.given;
         tally_front = part-front _ _ (tally_part same_command (h.part bytes (e.stands bytes stands)));
         behind = inr (sym (e.beyond bytes stands));
         unfinished = λ all told_all. part-differs _ _
@@ -287,7 +287,7 @@ ran-halted c limit count before old now bytes piece given size within few s wrot
       within = omega (arith, length-append bytes piece, size);
       ends = record {
         front = part-front _ _ whole;
-        known = front-then _ _ _ (live-front c (all_but_last PIECE (bytes ++ piece)) bytes
+        at_least = front-then _ _ _ (live-front c (all_but_last PIECE (bytes ++ piece)) bytes
             (all_but_last-front bytes piece (omega (arith, size)))) (given, refl);
         tally_front = (tally_of c (bytes ++ piece), refl);
         behind = inl refl;

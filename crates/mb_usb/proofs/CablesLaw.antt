@@ -1,5 +1,5 @@
--- The events of packets byte by byte are the literal cuts: what each cable carries, and the notes on packets. The bytes of a packet
--- that its cable carries stand side by side.
+-- The events of packets byte by byte are the literal cuts: what each cable carries, and the notes on packets. The bytes
+-- of a packet that its cable carries stand side by side.
 use Rattle.std.proofs.Common.{◌≡◌, ℕ, zero, suc, ◌+◌, ◌-◌, ◌/◌, ◌%◌, ◌<◌, ◌≤◌, Bool, true, false, ◌||◌, ◌==◌, nat_lt, nat_le, if◌then◌else◌, Option, Some, None, List, [], ◌∷◌, ◌++◌, map, flat_map, take, refl, sym, ◌∙◌, ap, ap₂, arith, append_assoc, append-nil}
 use Rattle.std.proofs.lemmas.Bool.{ltb-true}
 use Rattle.std.proofs.lemmas.Bool.Decides.{nat_tests}
@@ -20,7 +20,7 @@ use Rattle.mb_usb.specs.declared.under.Under.{Under}
 use Rattle.mb_usb.specs.declared.under.Under.TheVariants.{Between, One, Two, Three}
 use Rattle.mb_usb.specs.Reading.{Packet, cable_of, packets_from, packets, used, carried, cable_payload, suits_cin, unit_note}
 use Rattle.mb_usb.specs.Under.{under_after, left_of, head_of, note_at}
-use Rattle.mb_usb.specs.Cables.{of_cable, all_cables_so_far, cable_so_far, listed, port_by, usb, each_cable, only_cable}
+use Rattle.mb_usb.specs.Cables.{of_cable, all_cables_so_far, cable_so_far, notes_in, port_by, usb, each_cable, only_cable}
 
 -- A packet uses none of its other bytes, or one, two or three.
 data Use : ℕ → Type 0 where
@@ -215,9 +215,9 @@ reserved at = record { at = at; rank = 4; moment = 0; told = Notes at ReservedCi
 abbrev mismatch : ℕ → List Known
 mismatch at = record { at = at + 3; rank = 4; moment = 0; told = Notes at CinMismatch } ∷ []
 
-first-note : (at b : ℕ) → map (remark at) (listed (note_at Between b at)) ≡ (if nat_le (b % 16) 1 then reserved at else [])
+first-note : (at b : ℕ) → map (remark at) (notes_in (note_at Between b at)) ≡ (if nat_le (b % 16) 1 then reserved at else [])
 first-note at b = by_test (nat_le (b % 16) 1) where
-  by_test : (t : Bool) → map (remark at) (listed (if t then Some (record { kind = ReservedCin; at = at }) else None)) ≡ (if t then reserved at else [])
+  by_test : (t : Bool) → map (remark at) (notes_in (if t then Some (record { kind = ReservedCin; at = at }) else None)) ≡ (if t then reserved at else [])
   by_test true = refl
   by_test false = refl
 
@@ -225,10 +225,10 @@ no-more : (t : Bool) (at : ℕ) → (if t then reserved at else []) ≡ (if t th
 no-more true at = refl
 no-more false at = refl
 
-last-note : (at h a b c : ℕ) → (if nat_le (h % 16) 1 then reserved at else []) ++ map (remark (at + 1 + 1 + 1)) (listed (note_at (Three h a b) c (at + 1 + 1 + 1))) ≡
+last-note : (at h a b c : ℕ) → (if nat_le (h % 16) 1 then reserved at else []) ++ map (remark (at + 1 + 1 + 1)) (notes_in (note_at (Three h a b) c (at + 1 + 1 + 1))) ≡
     (if nat_le (h % 16) 1 then reserved at else (if suits_cin (h % 16) a b c then [] else mismatch at))
 last-note at h a b c = by_test (nat_le (h % 16) 1) (suits_cin (h % 16) a b c) where
-  by_test : (t s : Bool) → (if t then reserved at else []) ++ map (remark (at + 1 + 1 + 1)) (listed (if t then None else (if s then None else Some (record { kind = CinMismatch; at = at + 1 + 1 + 1 - 3 })))) ≡
+  by_test : (t s : Bool) → (if t then reserved at else []) ++ map (remark (at + 1 + 1 + 1)) (notes_in (if t then None else (if s then None else Some (record { kind = CinMismatch; at = at + 1 + 1 + 1 - 3 })))) ≡
       (if t then reserved at else (if s then [] else mismatch at))
   by_test true s = refl
   by_test false true = refl
@@ -240,18 +240,18 @@ last-note at h a b c = by_test (nat_le (h % 16) 1) (suits_cin (h % 16) a b c) wh
 notes-from : (f : ℕ → Option ℕ) (at : ℕ) (bytes : List ℕ) → unit_notes (events_from (usb f) Between at bytes) ≡ flat_map unit_note (packets_from at bytes)
 notes-from f at [] = refl
 notes-from f at (h ∷ []) =
-    step-notes (usb f) Between at h [] ∙ (append-nil (map (remark at) (listed (note_at Between h at))) ∙ (first-note at h ∙ no-more (nat_le (h % 16) 1) at))
+    step-notes (usb f) Between at h [] ∙ (append-nil (map (remark at) (notes_in (note_at Between h at))) ∙ (first-note at h ∙ no-more (nat_le (h % 16) 1) at))
 notes-from f at (h ∷ a ∷ []) =
     step-notes (usb f) Between at h (a ∷ []) ∙
-    (ap (λ z. map (remark at) (listed (note_at Between h at)) ++ z) (step-notes (usb f) (One h) (at + 1) a []) ∙
-    (append-nil (map (remark at) (listed (note_at Between h at))) ∙ (first-note at h ∙ no-more (nat_le (h % 16) 1) at)))
+    (ap (λ z. map (remark at) (notes_in (note_at Between h at)) ++ z) (step-notes (usb f) (One h) (at + 1) a []) ∙
+    (append-nil (map (remark at) (notes_in (note_at Between h at))) ∙ (first-note at h ∙ no-more (nat_le (h % 16) 1) at)))
 notes-from f at (h ∷ a ∷ b ∷ []) =
     step-notes (usb f) Between at h (a ∷ b ∷ []) ∙
-    (ap (λ z. map (remark at) (listed (note_at Between h at)) ++ z) (step-notes (usb f) (One h) (at + 1) a (b ∷ []) ∙ step-notes (usb f) (Two h a) (at + 1 + 1) b []) ∙
-    (append-nil (map (remark at) (listed (note_at Between h at))) ∙ (first-note at h ∙ no-more (nat_le (h % 16) 1) at)))
+    (ap (λ z. map (remark at) (notes_in (note_at Between h at)) ++ z) (step-notes (usb f) (One h) (at + 1) a (b ∷ []) ∙ step-notes (usb f) (Two h a) (at + 1 + 1) b []) ∙
+    (append-nil (map (remark at) (notes_in (note_at Between h at))) ∙ (first-note at h ∙ no-more (nat_le (h % 16) 1) at)))
 notes-from f at (h ∷ a ∷ b ∷ c ∷ bs) =
-    let first = map (remark at) (listed (note_at Between h at)) in
-    let last = map (remark (at + 1 + 1 + 1)) (listed (note_at (Three h a b) c (at + 1 + 1 + 1))) in
+    let first = map (remark at) (notes_in (note_at Between h at)) in
+    let last = map (remark (at + 1 + 1 + 1)) (notes_in (note_at (Three h a b) c (at + 1 + 1 + 1))) in
     let rest : unit_notes (events_from (usb f) Between (at + 1 + 1 + 1 + 1) bs) ≡ flat_map unit_note (packets_from (at + 4) bs) =
     ap (λ z. unit_notes (events_from (usb f) Between z bs)) (four_on at) ∙ notes-from f (at + 4) bs in
     step-notes (usb f) Between at h (a ∷ b ∷ c ∷ bs) ∙

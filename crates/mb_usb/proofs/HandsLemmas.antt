@@ -8,7 +8,7 @@ use Rattle.mb_stream.specs.Told.{Told}
 use Rattle.mb_stream.specs.Reading.{so_far}
 use Rattle.mb_din.specs.Reader.{Stands, IsFrontTaken, NextSays}
 use Rattle.mb_din.specs.State.{State}
-use Rattle.mb_usb.specs.declared.under.Packet.{Packet}
+use Rattle.mb_usb.specs.declared.under.Packets.{Packets}
 use Rattle.mb_usb.specs.Under.{left_of, packet_after, packet_behind}
 use Rattle.mb_usb.specs.Hands.{Hands, piece_of, placed}
 
@@ -36,12 +36,12 @@ drop-min xs l = elim (cases_lt l (length xs)) [
   | inr more ↦ let e : min (length xs) l ≡ length xs = omega arith in ap (λ z. drop z xs) e ∙ (drop-length xs ∙ sym (drop-all l xs more))
 ]
 
-pub packet_behind-offset : (p : Packet) (bs : List ℕ) → (packet_behind p bs).offset ≡ p.offset + length bs
+pub packet_behind-offset : (p : Packets) (bs : List ℕ) → (packet_behind p bs).offset ≡ p.offset + length bs
 packet_behind-offset p [] = let e : p.offset ≡ p.offset + 0 = omega arith in e
 packet_behind-offset p (b ∷ bs) = let e : p.offset + 1 + length bs ≡ p.offset + length (b ∷ bs) = omega arith in packet_behind-offset (packet_after p b) bs ∙ e
 
 -- a front of a front
-pub hands-kept : (was now : Packet) (reader put next : State) (input piece kept taken behind : List ℕ) (n : ℕ) (answer : List Told) →
+pub hands-kept : (was now : Packets) (reader put next : State) (input piece kept taken behind : List ℕ) (n : ℕ) (answer : List Told) →
     piece ≡ take (min (length input) (left_of was.under)) input → put ≡ placed was reader → IsFrontTaken put next piece kept →
     n ≡ length piece - length kept → taken ≡ take n input → behind ≡ drop n input → now ≡ packet_behind was taken →
     ((es : List Entry) → Stands reader es (so_far es) → Stands put es (so_far es)) → NextSays put next piece kept answer →
@@ -66,16 +66,16 @@ hands-kept was now reader put next input piece kept taken behind n answer p at f
       refl,
     )
 
-pub hands-end : (was now : Packet) (reader next : State) (input left : List ℕ) (answer : List Told) → Hands was now reader next input left answer →
+pub hands-end : (was now : Packets) (reader next : State) (input left : List ℕ) (answer : List Told) → Hands was now reader next input left answer →
     now.offset + length left ≡ was.offset + length input
 hands-end was now reader next input left answer h =
     let rest = drop (left_of was.under) input in
-    let at : now.offset ≡ was.offset + length h.taken = ap (λ (z : Packet). z.offset) h.packet ∙ packet_behind-offset was h.taken in
+    let at : now.offset ≡ was.offset + length h.taken = ap (λ (z : Packets). z.offset) h.packet ∙ packet_behind-offset was h.taken in
     let all : length input ≡ length (piece_of was input) + length rest = ap length (sym (take-append-drop (left_of was.under) input)) ∙ length-append (piece_of was input) rest in
     let piece : length (piece_of was input) ≡ length h.taken + length h.kept = ap length h.piece ∙ length-append h.taken h.kept in
     let behind : length left ≡ length h.kept + length rest = ap length h.left_is ∙ length-append h.kept rest in
     omega arith
 
-pub hands-at : (was now : Packet) (reader next : State) (input left : List ℕ) (answer : List Told) → Hands was now reader next input left answer → next.offset ≡ now.offset
+pub hands-at : (was now : Packets) (reader next : State) (input left : List ℕ) (answer : List Told) → Hands was now reader next input left answer → next.offset ≡ now.offset
 hands-at was now reader next input left answer h =
-    h.offset ∙ sym (ap (λ (z : Packet). z.offset) h.packet ∙ packet_behind-offset was h.taken)
+    h.offset ∙ sym (ap (λ (z : Packets). z.offset) h.packet ∙ packet_behind-offset was h.taken)

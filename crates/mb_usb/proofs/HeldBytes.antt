@@ -1,5 +1,5 @@
--- What a cable carries of written marks: bytes of a SysEx wait for a packet, and a real-time byte passes them. It means what
--- the marks' bytes mean at once, since a real-time message may stand anywhere in a SysEx.
+-- What a cable carries of written marks: bytes of a SysEx wait for a packet, and a real-time byte passes them. It means
+-- what the marks' bytes mean at once, since a real-time message may stand anywhere in a SysEx.
 use Rattle.std.proofs.Common.{◌≡◌, ℕ, suc, ◌+◌, Bool, true, false, ◌==◌, if◌then◌else◌, List, [], ◌∷◌, ◌++◌, length, Option, Some, None, ◌≤◌, refl, sym, ap, ap₂, ◌∙◌, subst, subst₂, append_assoc, append-nil, arith}
 use Rattle.mb_message.specs.Signs.{Sign, ShortSign, RtSign, OpenSign, ByteSign, EndSign, AbortSign}
 use Rattle.mb_stream.specs.Denotation.{Message, Syx, Broken, items_from, realtimes_from, denotation}
@@ -23,11 +23,11 @@ held_back p (AbortSign ∷ ms) = p ++ held_back [] ms
 -- the same meaning behind whatever stands before, and as many marks
 pub record Same (xs ys : List Sign) : Type 0 where
   pub items : (o : Option (List ℕ)) → items_from o xs ≡ items_from o ys
-  pub realtimes : (n : ℕ) → realtimes_from n xs ≡ realtimes_from n ys
+  pub realtimes : (o : Bool) (n : ℕ) → realtimes_from o n xs ≡ realtimes_from o n ys
   pub lengths : length xs ≡ length ys
 
 Same-refl : (xs : List Sign) → Same xs xs
-Same-refl xs = record { items = λ o. refl; realtimes = λ n. refl; lengths = refl }
+Same-refl xs = record { items = λ o. refl; realtimes = λ o n. refl; lengths = refl }
 
 Same-equal : (xs ys : List Sign) → xs ≡ ys → Same xs ys
 Same-equal xs ys e = subst (λ zs. Same xs zs) e (Same-refl xs)
@@ -35,7 +35,7 @@ Same-equal xs ys e = subst (λ zs. Same xs zs) e (Same-refl xs)
 Same-trans : (xs ys zs : List Sign) → Same xs ys → Same ys zs → Same xs zs
 Same-trans xs ys zs h k = record {
   items = λ o. h.items o ∙ k.items o;
-  realtimes = λ n. h.realtimes n ∙ k.realtimes n;
+  realtimes = λ o n. h.realtimes o n ∙ k.realtimes o n;
   lengths = h.lengths ∙ k.lengths;
 }
 
@@ -52,14 +52,15 @@ items-cons EndSign xs ys h (Some ds) = ap (λ is. Syx ds ∷ is) (h None)
 items-cons AbortSign xs ys h None = h None
 items-cons AbortSign xs ys h (Some ds) = ap (λ is. Broken ds ∷ is) (h None)
 
-realtimes-cons : (z : Sign) (xs ys : List Sign) → ((n : ℕ) → realtimes_from n xs ≡ realtimes_from n ys) →
-    (n : ℕ) → realtimes_from n (z ∷ xs) ≡ realtimes_from n (z ∷ ys)
-realtimes-cons (ShortSign s a b) xs ys h n = h (suc n)
-realtimes-cons (RtSign b) xs ys h n = ap (λ rs. record { byte = b; after = n } ∷ rs) (h n)
-realtimes-cons OpenSign xs ys h n = h n
-realtimes-cons (ByteSign b) xs ys h n = h n
-realtimes-cons EndSign xs ys h n = h (suc n)
-realtimes-cons AbortSign xs ys h n = h n
+realtimes-cons : (z : Sign) (xs ys : List Sign) → ((o : Bool) (n : ℕ) → realtimes_from o n xs ≡ realtimes_from o n ys) →
+    (o : Bool) (n : ℕ) → realtimes_from o n (z ∷ xs) ≡ realtimes_from o n (z ∷ ys)
+realtimes-cons (ShortSign s a b) xs ys h o n = h o (suc n)
+realtimes-cons (RtSign b) xs ys h o n = ap (λ rs. record { byte = b; after = n } ∷ rs) (h o n)
+realtimes-cons OpenSign xs ys h o n = h true n
+realtimes-cons (ByteSign b) xs ys h o n = h o n
+realtimes-cons EndSign xs ys h false n = h false n
+realtimes-cons EndSign xs ys h true n = h false (suc n)
+realtimes-cons AbortSign xs ys h o n = h false n
 
 Same-cons : (z : Sign) (xs ys : List Sign) → Same xs ys → Same (z ∷ xs) (z ∷ ys)
 Same-cons z xs ys h = record {
@@ -103,15 +104,15 @@ early : (b : ℕ) (zs xs : List Sign) → Passable zs → Same (RtSign b ∷ (zs
 early b [] xs h = Same-refl (RtSign b ∷ xs)
 early b (OpenSign ∷ zs) xs h =
     Same-trans (RtSign b ∷ OpenSign ∷ (zs ++ xs)) (OpenSign ∷ RtSign b ∷ (zs ++ xs)) (OpenSign ∷ (zs ++ RtSign b ∷ xs))
-    (record { items = λ o. refl; realtimes = λ n. refl; lengths = refl })
+    (record { items = λ o. refl; realtimes = λ o n. refl; lengths = refl })
     (Same-cons OpenSign (RtSign b ∷ (zs ++ xs)) (zs ++ RtSign b ∷ xs) (early b zs xs h))
 early b (ByteSign d ∷ zs) xs h =
     Same-trans (RtSign b ∷ ByteSign d ∷ (zs ++ xs)) (ByteSign d ∷ RtSign b ∷ (zs ++ xs)) (ByteSign d ∷ (zs ++ RtSign b ∷ xs))
-    (record { items = λ o. early-byte_items o b d (zs ++ xs); realtimes = λ n. refl; lengths = refl })
+    (record { items = λ o. early-byte_items o b d (zs ++ xs); realtimes = λ o n. refl; lengths = refl })
     (Same-cons (ByteSign d) (RtSign b ∷ (zs ++ xs)) (zs ++ RtSign b ∷ xs) (early b zs xs h))
 early b (AbortSign ∷ zs) xs h =
     Same-trans (RtSign b ∷ AbortSign ∷ (zs ++ xs)) (AbortSign ∷ RtSign b ∷ (zs ++ xs)) (AbortSign ∷ (zs ++ RtSign b ∷ xs))
-    (record { items = λ o. early-abort_items o b (zs ++ xs); realtimes = λ n. refl; lengths = refl })
+    (record { items = λ o. early-abort_items o b (zs ++ xs); realtimes = λ o n. refl; lengths = refl })
     (Same-cons AbortSign (RtSign b ∷ (zs ++ xs)) (zs ++ RtSign b ∷ xs) (early b zs xs h))
 early b (ShortSign s a c ∷ zs) xs h = absurd h
 early b (RtSign c ∷ zs) xs h = absurd h
@@ -216,7 +217,7 @@ read-held ms su =
 pub denotation-held : (ms : List Sign) → Suit false ms → denotation (read Rest (held_back [] ms)) ≡ denotation ms
 denotation-held ms su =
     let s : Same (read Rest (held_back [] ms)) (late Closed ms) = read-held ms su in
-    ap₂ (λ is rs. record { items = is; realtimes = rs }) (s.items None) (s.realtimes 0) ∙ denotation-late ms su
+    ap₂ (λ is rs. record { items = is; realtimes = rs }) (s.items None) (s.realtimes false 0) ∙ denotation-late ms su
 
 pub length-held : (ms : List Sign) → Suit false ms → length (read Rest (held_back [] ms)) ≤ length ms + 1
 length-held ms su = let s : Same (read Rest (held_back [] ms)) (late Closed ms) = read-held ms su in omega (arith, length-late ms su, s.lengths)

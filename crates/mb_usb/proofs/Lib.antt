@@ -1,3 +1,4 @@
+pub mod AnewLemmas
 pub mod CablesLaw
 pub mod CarrierLaws
 mod DeviceExamples
@@ -10,6 +11,7 @@ pub mod HeldClean
 pub mod Longest
 pub mod Loops
 pub mod PacketFacts
+mod NumberExamples
 pub mod OnlyCable
 pub mod OtherCables
 mod PacketPlaces

@@ -1,4 +1,5 @@
--- A run is the longest that stands side by side: what is left of the packet's bytes, and stands in the input, begins with no data.
+-- A run is the longest that stands side by side: what is left of the packet's bytes, and stands in the input, begins
+-- with no data.
 use Rattle.std.proofs.Common.{◌≡◌, ℕ, ◌+◌, ◌-◌, ◌%◌, ◌<◌, ◌≤◌, inl, inr, Bool, true, false, ◌||◌, ◌==◌, nat_le, if◌then◌else◌, Option, IfSome, min, List, [], ◌∷◌, ◌++◌, length, take, drop, refl, sym, ◌∙◌, ap, ap₂, subst, arith, length-append}
 use Rattle.std.proofs.Math.Seq.{take-append_seam}
 use Rattle.std.proofs.lemmas.List.{append-nil, length-take}
@@ -9,7 +10,7 @@ use Rattle.mb_stream.specs.ReaderLaw.{IsLongest, StatusNext, answer}
 use Rattle.mb_din.specs.State.{State}
 use Rattle.mb_usb.specs.declared.under.Under.{Under}
 use Rattle.mb_usb.specs.declared.under.Under.TheVariants.{Between, One, Two, Three}
-use Rattle.mb_usb.specs.declared.under.Packet.{Packet}
+use Rattle.mb_usb.specs.declared.under.Packets.{Packets}
 use Rattle.mb_usb.specs.Reading.{used}
 use Rattle.mb_usb.specs.Under.{left_of, under_after, packet_after, packet_behind}
 use Rattle.mb_usb.specs.Hands.{Hands}
@@ -29,7 +30,7 @@ left-after (One h) b some = refl
 left-after (Two h a) b some = omega arith
 left-after (Three h a b) c some = omega (arith, used-three (h % 16))
 
-left-behind : (p : Packet) (ts : List ℕ) → length ts ≤ left_of p.under → left_of (packet_behind p ts).under ≡ left_of p.under - length ts
+left-behind : (p : Packets) (ts : List ℕ) → length ts ≤ left_of p.under → left_of (packet_behind p ts).under ≡ left_of p.under - length ts
 left-behind p [] h = omega arith
 left-behind p (b ∷ bs) h =
     let one : left_of (packet_after p b).under ≡ left_of p.under - 1 = left-after p.under b (omega arith) in
@@ -37,11 +38,11 @@ left-behind p (b ∷ bs) h =
     omega arith
 
 -- what was not taken of the piece is what still stands there of the packet's bytes
-pub kept-is : (was now : Packet) (r s : State) (input left : List ℕ) (told : List Told) (h : Hands was now r s input left told) → take (left_of now.under) left ≡ h.kept
+pub kept-is : (was now : Packets) (r s : State) (input left : List ℕ) (told : List Told) (h : Hands was now r s input left told) → take (left_of now.under) left ≡ h.kept
 kept-is was now r s input left told h =
     let many = left_of was.under in
     let lengths : length h.taken + length h.kept ≡ min many (length input) = omega (arith, length-append h.taken h.kept, ap length h.piece, length-take many input) in
-    let less : left_of now.under ≡ many - length h.taken = ap (λ (z : Packet). left_of z.under) h.packet ∙ left-behind was h.taken (omega arith) in
+    let less : left_of now.under ≡ many - length h.taken = ap (λ (z : Packets). left_of z.under) h.packet ∙ left-behind was h.taken (omega arith) in
     ap₂ take less h.left_is ∙
     (elim (cases_lt (length input) many) [
       | inl short ↦
@@ -52,7 +53,7 @@ kept-is was now r s input left told h =
           ap (λ z. take z (h.kept ++ drop many input)) all ∙ take-append_seam h.kept (drop many input)
     ])
 
-pub longest : (was now : Packet) (r s : State) (input left kept : List ℕ) (seen : Option Seen) (h : Hands was now r s input left (answer seen)) → h.kept ≡ kept → IfSome seen (IsLongest kept) →
+pub longest : (was now : Packets) (r s : State) (input left kept : List ℕ) (seen : Option Seen) (h : Hands was now r s input left (answer seen)) → h.kept ≡ kept → IfSome seen (IsLongest kept) →
     IfSome seen (IsLongest (take (left_of now.under) left))
 longest was now r s input left kept seen h e run =
     subst (λ z. IfSome seen (IsLongest z)) (sym (kept-is was now r s input left (answer seen) h ∙ e)) run

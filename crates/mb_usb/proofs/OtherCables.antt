@@ -1,4 +1,5 @@
--- Whatever the marks, each packet that is written for a cable bears its number, so that no other cable carries anything of them.
+-- Whatever the marks, each packet that is written for a cable bears its number, so that no other cable carries anything
+-- of them.
 --
 --   IsOf cable bytes     a packet of the cable
 use Rattle.std.proofs.Common.{◌≡◌, ℕ, ◌+◌, ◌*◌, ◌/◌, ◌<◌, Bool, true, false, ◌==◌, nat_le, if◌then◌else◌, List, [], ◌∷◌, ◌++◌, flat_map, refl, sym, ap, ◌∙◌, arith, lit<}

@@ -1,5 +1,5 @@
--- What is written is a row of packets, each of at most three bytes that suit its code index number. What such a row carries,
--- how long it is, and that nothing is remarked of it.
+-- What is written is a row of packets, each of at most three bytes that suit its code index number. What such a row
+-- carries, how long it is, and that nothing is remarked of it.
 use Rattle.std.proofs.Common.{◌≡◌, ℕ, ◌+◌, ◌*◌, ◌<◌, ◌≤◌, true, ◌==◌, if◌then◌else◌, List, [], ◌∷◌, ◌++◌, length, take, flat_map, refl, sym, ap, ap₂, ◌∙◌, subst, arith, length-append}
 use Rattle.std.proofs.lemmas.Bool.{lt-leb, eq-eqb}
 use Rattle.mb_message.specs.declared.note.NoteKind.TheVariants.{ReservedCin, CinMismatch}

@@ -1,5 +1,5 @@
--- The reading of a cable has the marks that are read of its payload's bytes: notes on packets stand beside them. The payload has at most
--- as many entries as the recording has bytes.
+-- The reading of a cable has the marks that are read of its payload's bytes: notes on packets stand beside them. The
+-- payload has at most as many entries as the recording has bytes.
 use Rattle.std.proofs.Common.{◌≡◌, ℕ, ◌+◌, ◌≤◌, Bool, true, false, ◌==◌, nat_le, if◌then◌else◌, List, [], ◌∷◌, ◌++◌, length, take, flat_map, refl, sym, ap, ap₂, ◌∙◌, arith, length-take, length-append, append-nil}
 use Rattle.std.proofs.lemmas.List.Concat.{flat_map-append}
 use Rattle.mb_message.specs.declared.note.NoteKind.TheVariants.{ReservedCin, CinMismatch}

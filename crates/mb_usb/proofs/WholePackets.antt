@@ -14,7 +14,7 @@ use Rattle.mb_din.specs.State.{State}
 use Rattle.mb_stream.proofs.ReaderLemmas.{tells-trans}
 use Rattle.mb_usb.specs.declared.under.Under.{Under}
 use Rattle.mb_usb.specs.declared.under.Under.TheVariants.{Between, One, Two, Three}
-use Rattle.mb_usb.specs.declared.under.Packet.{Packet}
+use Rattle.mb_usb.specs.declared.under.Packets.{Packets}
 use Rattle.mb_usb.specs.Reading.{used, suits_cin}
 use Rattle.mb_usb.specs.Under.{is_of_cable, note_at, under_after, packet_after, packet_behind}
 use Rattle.mb_usb.specs.Hands.{Hands}
@@ -29,13 +29,13 @@ use Rattle.mb_usb.proofs.Longest.{used-three}
 use Rattle.mb_usb.proofs.OnlyCable.{OnlyTells, OnlyHolds, only_known, only-is, join, then-none, then-pass, pass-behind, undue-behind}
 use Rattle.mb_ports.specs.Reader.{bare}
 
-abbrev packet : ℕ → Under → Packet
+abbrev packet : ℕ → Under → Packets
 packet o u = record { offset = o; under = u; due = None }
 
-abbrev Goes_on : (c : ℕ) (p : Packet) (r : State) (q : Packet) (s : State) (input left : List ℕ) (seen : List (Option ℕ × Told)) → Type 0
+abbrev Goes_on : (c : ℕ) (p : Packets) (r : State) (q : Packets) (s : State) (input left : List ℕ) (seen : List (Option ℕ × Told)) → Type 0
 Goes_on c p r q s input left seen = Tells bare (only_known c) (OnlyHolds c p r) (OnlyHolds c q s) input left seen
 
-then_on : (c : ℕ) (p : Packet) (r : State) (q : Packet) (s : State) (t : Packet) (input between left : List ℕ) (seen : List (Option ℕ × Told)) → Goes_on c p r q s input between seen → Goes_on c q s t s between left [] →
+then_on : (c : ℕ) (p : Packets) (r : State) (q : Packets) (s : State) (t : Packets) (input between left : List ℕ) (seen : List (Option ℕ × Told)) → Goes_on c p r q s input between seen → Goes_on c q s t s between left [] →
     Goes_on c p r t s input left seen
 then_on c p r q s t input between left seen f g =
     subst (λ z. Goes_on c p r t s input left z) (append-nil seen) (tells-trans bare (only_known c) (OnlyHolds c p r) (OnlyHolds c q s) (OnlyHolds c t s) input between left seen [] f g)
@@ -130,7 +130,7 @@ by_bytes c o h r s told (a ∷ []) left of three w = absurd (omega (arith, three
 by_bytes c o h r s told (a ∷ b ∷ []) left of three w = absurd (omega (arith, three))
 by_bytes c o h r s told (a ∷ b ∷ d ∷ e ∷ l) left of three w = absurd (omega (arith, three))
 
-packet-step : (c : ℕ) (p q : Packet) (r s : State) (input left : List ℕ) (told : List Told) → p.due ≡ None → WholePacket c p q r s input left told → Goes_on c p r q s input left (map (λ y. (Some 0, y)) told)
+packet-step : (c : ℕ) (p q : Packets) (r s : State) (input left : List ℕ) (told : List Told) → p.due ≡ None → WholePacket c p q r s input left told → Goes_on c p r q s input left (map (λ y. (Some 0, y)) told)
 packet-step c p q r s input left told due w =
     let seen = map (λ y. (Some 0, y)) told in
     let first : p ≡ packet p.offset Between = ap₂ (λ (u : Under) (n : Option Note). record { offset = p.offset; under = u; due = n }) w.between due in
@@ -140,14 +140,14 @@ packet-step c p q r s input left told due w =
     let all : Goes_on c (packet p.offset Between) r (packet (p.offset + 1 + 1 + 1 + 1) Between) s (w.head ∷ (w.bytes ++ left)) left seen =
     tells-trans bare (only_known c) (OnlyHolds c (packet p.offset Between) r) (OnlyHolds c (packet (p.offset + 1) (One w.head)) r) (OnlyHolds c (packet (p.offset + 1 + 1 + 1 + 1) Between) s) (w.head ∷ (w.bytes ++ left)) (w.bytes ++ left) left [] seen front (by_bytes c p.offset w.head r s told w.bytes left w.of w.three w.carries) in
     subst (λ (z : List ℕ). Goes_on c p r q s z left seen) (sym w.front)
-    (subst (λ (z : Packet). Goes_on c z r q s (w.head ∷ (w.bytes ++ left)) left seen) (sym first)
-    (subst (λ (z : Packet). Goes_on c (packet p.offset Between) r z s (w.head ∷ (w.bytes ++ left)) left seen) last all))
+    (subst (λ (z : Packets). Goes_on c z r q s (w.head ∷ (w.bytes ++ left)) left seen) (sym first)
+    (subst (λ (z : Packets). Goes_on c (packet p.offset Between) r z s (w.head ∷ (w.bytes ++ left)) left seen) last all))
 
-pub then-packet : (c : ℕ) (a p q t : Packet) (x r s : State) (start input left : List ℕ) (told : List Told) → OnlyTells c a x p r start input [] → p.due ≡ None → q ≡ record p { due = None } →
+pub then-packet : (c : ℕ) (a p q t : Packets) (x r s : State) (start input left : List ℕ) (told : List Told) → OnlyTells c a x p r start input [] → p.due ≡ None → q ≡ record p { due = None } →
     WholePacket c q t r s input left told → OnlyTells c a x t s start left (map (λ y. (Some 0, y)) told)
 then-packet c a p q t x r s start input left told before due same w =
     join c a q t x r s start input left (map (λ y. (Some 0, y)) told) (then-none c a p q x r start input before due same)
-    (packet-step c q t r s input left told (ap (λ (z : Packet). z.due) same) w)
+    (packet-step c q t r s input left told (ap (λ (z : Packets). z.due) same) w)
 
 -- The bytes that a number uses, and that they suit it.
 
@@ -253,19 +253,19 @@ bytes-run open_now (Some x) n at (a ∷ b ∷ d ∷ e ∷ l) reader next three n
 
 -- Bytes that are passed over.
 
-pub one-passed : (c : ℕ) (p q : Packet) (b : ℕ) (rest : List ℕ) → p.due ≡ None → is_of_cable c p.under ≡ false → q ≡ packet_after p b → PassedOver c p q (b ∷ rest) rest
+pub one-passed : (c : ℕ) (p q : Packets) (b : ℕ) (rest : List ℕ) → p.due ≡ None → is_of_cable c p.under ≡ false → q ≡ packet_after p b → PassedOver c p q (b ∷ rest) rest
 one-passed c p q b rest due other after = record { taken = b ∷ []; front = refl; passed = (due, other, tt); behind = after }
 
 not_same : (h c : ℕ) → h ≢ c → (h == c) ≡ false
 not_same h c apart = grind (arith, nat_tests)
 
-pub four-passed : (c : ℕ) (p q : Packet) (h a b d : ℕ) (left : List ℕ) → p.due ≡ None → is_of_cable c p.under ≡ false → p.under ≡ Between → h / 16 ≢ c → 1 < h % 16 →
+pub four-passed : (c : ℕ) (p q : Packets) (h a b d : ℕ) (left : List ℕ) → p.due ≡ None → is_of_cable c p.under ≡ false → p.under ≡ Between → h / 16 ≢ c → 1 < h % 16 →
     q ≡ packet_behind p (h ∷ a ∷ b ∷ d ∷ []) → PassedOver c p q (h ∷ a ∷ b ∷ d ∷ left) left
 four-passed c p q h a b d left due other between apart carries after =
     let quiet : note_at p.under h p.offset ≡ None =
     ap (λ (u : Under). note_at u h p.offset) between ∙ ap (λ (t : Bool). if t then Some (record { kind = ReservedCin; at = p.offset }) else None) (not_reserved (h % 16) carries) in
     let first : under_after p.under h ≡ One h = ap (λ (u : Under). under_after u h) between in
-    let next : Packet = packet (p.offset + 1) (One h) in
+    let next : Packets = packet (p.offset + 1) (One h) in
     let is_next : packet_after p h ≡ next = ap₂ (λ (u : Under) (n : Option Note). record { offset = p.offset + 1; under = u; due = n }) first quiet in
     let foreign : (left_now : ℕ) → ((h / 16 == c) && not (left_now == 0)) ≡ false = λ left_now. ap (λ (t : Bool). t && not (left_now == 0)) (not_same (h / 16) c apart) in
     record {
@@ -274,7 +274,7 @@ four-passed c p q h a b d left due other between apart carries after =
       passed = (
         due,
         other,
-        subst (λ (z : Packet). ArePassed c z (a ∷ b ∷ d ∷ [])) (sym is_next)
+        subst (λ (z : Packets). ArePassed c z (a ∷ b ∷ d ∷ [])) (sym is_next)
             (refl, foreign (used (h % 16)), (refl, foreign (used (h % 16) - 1), (refl, foreign (used (h % 16) - 2), tt))),
       );
       behind = after;
@@ -283,31 +283,31 @@ four-passed c p q h a b d left due other between apart carries after =
     not_reserved : (n : ℕ) → 1 < n → nat_le n 1 ≡ false
     not_reserved n low = grind (arith, nat_tests)
 
-then-passed : (c : ℕ) (a p : Packet) (x r : State) (start : List ℕ) (taken left : List ℕ) → OnlyTells c a x p r start (taken ++ left) [] → ArePassed c p taken → OnlyTells c a x (packet_behind p taken) r start left []
+then-passed : (c : ℕ) (a p : Packets) (x r : State) (start : List ℕ) (taken left : List ℕ) → OnlyTells c a x p r start (taken ++ left) [] → ArePassed c p taken → OnlyTells c a x (packet_behind p taken) r start left []
 then-passed c a p x r start [] left before passed = before
 then-passed c a p x r start (b ∷ bs) left before passed =
     then-passed c a (packet_after p b) x r start bs left
     (then-pass c a p p (packet_after p b) x r start (b ∷ (bs ++ left)) (bs ++ left) b before passed.0 (ap (λ (n : Option Note). record p { due = n }) passed.0) passed.1 refl refl)
     passed.2
 
-pub then-over : (c : ℕ) (a p q t : Packet) (x r : State) (start input left : List ℕ) → OnlyTells c a x p r start input [] → p.due ≡ None → q ≡ record p { due = None } → PassedOver c q t input left → OnlyTells c a x t r start left []
+pub then-over : (c : ℕ) (a p q t : Packets) (x r : State) (start input left : List ℕ) → OnlyTells c a x p r start input [] → p.due ≡ None → q ≡ record p { due = None } → PassedOver c q t input left → OnlyTells c a x t r start left []
 then-over c a p q t x r start input left before due same w =
     let at_q : OnlyTells c a x q r start input [] = then-none c a p q x r start input before due same in
-    subst (λ (z : Packet). OnlyTells c a x z r start left []) (sym w.behind)
+    subst (λ (z : Packets). OnlyTells c a x z r start left []) (sym w.behind)
     (then-passed c a q x r start w.taken left (subst (λ (z : List ℕ). OnlyTells c a x q r start z []) w.front at_q) w.passed)
 
-passed-behind : (c : ℕ) (p : Packet) (r : State) (taken : List ℕ) → IsBehind p r → ArePassed c p taken → IsBehind (packet_behind p taken) r
+passed-behind : (c : ℕ) (p : Packets) (r : State) (taken : List ℕ) → IsBehind p r → ArePassed c p taken → IsBehind (packet_behind p taken) r
 passed-behind c p r [] h passed = h
 passed-behind c p r (b ∷ bs) h passed =
     passed-behind c (packet_after p b) r bs (pass-behind p p (packet_after p b) r b h (ap (λ (n : Option Note). record p { due = n }) passed.0) refl) passed.2
 
-pub over-behind : (c : ℕ) (p q t : Packet) (r : State) (input left : List ℕ) → IsBehind p r → q ≡ record p { due = None } → PassedOver c q t input left → IsBehind t r
+pub over-behind : (c : ℕ) (p q t : Packets) (r : State) (input left : List ℕ) → IsBehind p r → q ≡ record p { due = None } → PassedOver c q t input left → IsBehind t r
 over-behind c p q t r input left h same w =
-    subst (λ (z : Packet). IsBehind z r) (sym w.behind) (passed-behind c q r w.taken (undue-behind p q r h same) w.passed)
+    subst (λ (z : Packets). IsBehind z r) (sym w.behind) (passed-behind c q r w.taken (undue-behind p q r h same) w.passed)
 
-pub over-ends : (c : ℕ) (q t : Packet) (input left : List ℕ) → PassedOver c q t input left → t.offset + length left ≡ q.offset + length input
+pub over-ends : (c : ℕ) (q t : Packets) (input left : List ℕ) → PassedOver c q t input left → t.offset + length left ≡ q.offset + length input
 over-ends c q t input left w =
-    omega (arith, ap (λ (z : Packet). z.offset) w.behind, packet_behind-offset q w.taken, ap length w.front, length-append w.taken left)
+    omega (arith, ap (λ (z : Packets). z.offset) w.behind, packet_behind-offset q w.taken, ap length w.front, length-append w.taken left)
 
 -- three elements, and those behind them
 pub front-three : (xs : List ℕ) → 3 ≤ length xs → xs ≡ get_or xs 0 0 ∷ (get_or xs 1 0 ∷ (get_or xs 2 0 ∷ take (length xs - 3) (drop 3 xs)))
@@ -316,7 +316,7 @@ front-three (a ∷ []) few = absurd (omega arith)
 front-three (a ∷ b ∷ []) few = absurd (omega arith)
 front-three (a ∷ b ∷ d ∷ l) few = ap (λ z. a ∷ (b ∷ (d ∷ z))) (sym (take_all (length (a ∷ b ∷ d ∷ l) - 3) l (omega arith)))
 
-pub packet-few : (c : ℕ) (p q : Packet) (r s : State) (input left : List ℕ) (told : List Told) → WholePacket c p q r s input left told →
+pub packet-few : (c : ℕ) (p q : Packets) (r s : State) (input left : List ℕ) (told : List Told) → WholePacket c p q r s input left told →
     length (told_signs told) ≤ length input
 packet-few c p q r s input left told w =
     omega (arith, w.carries.takes.few, length-take (used (w.head % 16)) w.bytes, ap length w.front, length-append w.bytes left)

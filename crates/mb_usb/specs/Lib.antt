@@ -1,11 +1,11 @@
 pub mod Cables
 pub mod Hands
-pub mod Held
 pub mod Packets
 pub mod Reading
 pub mod Running
 pub mod State
 pub mod Under
+pub mod Waiting
 pub mod Whole
 pub mod Writer
 pub mod Written

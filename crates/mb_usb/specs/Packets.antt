@@ -17,8 +17,8 @@ padded (a ∷ b ∷ c ∷ _) = a ∷ b ∷ c ∷ []
 abbrev pub packet : (cable number : ℕ) → List ℕ → List ℕ
 packet cable number bytes = (cable * 16 + number) ∷ padded bytes
 
--- table 4-1: channel messages have the number of their status's high half, Song Position Pointer 3, Tune Request 5, MTC Quarter
--- Frame and Song Select 2
+-- table 4-1: channel messages have the number of their status's high half, Song Position Pointer 3, Tune Request 5, MTC
+-- Quarter Frame and Song Select 2
 abbrev pub cin_of_short : ℕ → ℕ
 cin_of_short s = if is_channel s then s / 16 else (if s == 0xf2 then 3 else (if s == 0xf6 then 5 else 2))
 

@@ -1,7 +1,7 @@
--- The reading of one cable of a USB recording (USB Device Class Definition for MIDI Devices 1.0, section 4, figure 8, and table 4-1, "Code
--- Index Number Classifications"). The recording is cut into packets of four bytes. The bytes that the packets of a cable use,
--- one after the other, are its payload, a byte stream. Which bytes suit a code index number is this project's own; bytes that
--- don't are carried all the same, and their packet has a note.
+-- The reading of one cable of a USB recording (USB Device Class Definition for MIDI Devices 1.0, section 4, figure 8,
+-- and table 4-1, "Code Index Number Classifications"). The recording is cut into packets of four bytes. The bytes that
+-- the packets of a cable use, one after the other, are its payload, a byte stream. Which bytes suit a code index number
+-- is this project's own; bytes that don't are carried all the same, and their packet has a note.
 --
 --   packets bytes               the recording cut into packets
 --   cable_payload cable bytes   what the packets of a cable carry
@@ -9,7 +9,8 @@
 --   usb_so_far cable bytes      what becomes known of a cable at the recording's bytes
 --   usb_reading cable bytes     the same, and what only the end makes known
 --   usb_whole bytes             the recording ends behind a whole packet
-use Rattle.std.specs.Prelude.{ℕ, ◌+◌, ◌/◌, ◌%◌, Bool, true, ◌&&◌, ◌||◌, ◌==◌, nat_le, if◌then◌else◌, List, [], ◌∷◌, ◌++◌, length, take, map, flat_map}
+use Rattle.std.specs.Prelude.{ℕ, ◌+◌, ◌/◌, ◌%◌, Bool, true, ◌&&◌, ◌||◌, ◌==◌, nat_le, if◌then◌else◌, List, [], ◌∷◌}
+use Rattle.std.specs.Prelude.{◌++◌, length, take, map, flat_map}
 use Rattle.mb_message.specs.Bytes.{is_data}
 use Rattle.mb_message.specs.declared.note.NoteKind.TheVariants.{ReservedCin, CinMismatch}
 use Rattle.mb_stream.specs.Payload.{Entry, heard_from}
@@ -80,7 +81,8 @@ suits_packet p = suits_rest (cin_of p) p.rest
 abbrev pub unit_note : Packet → List Known
 unit_note p =
     if nat_le (cin_of p) 1 then record { at = p.at; rank = 4; moment = 0; told = Notes p.at ReservedCin } ∷ []
-    else (if suits_packet p then [] else record { at = p.at + 3; rank = 4; moment = 0; told = Notes p.at CinMismatch } ∷ [])
+    else (if suits_packet p then []
+    else record { at = p.at + 3; rank = 4; moment = 0; told = Notes p.at CinMismatch } ∷ [])
 
 -- with the notes on every packet, of whatever cable
 abbrev pub usb_told : (cable : ℕ) → List ℕ → List Known

@@ -1,16 +1,17 @@
--- The packet under way, byte by byte (USB Device Class Definition for MIDI Devices 1.0, section 4 and table 4-1). This is no
--- second definition of what is read: laws say that both are equal.
+-- The packet under way, byte by byte (USB Device Class Definition for MIDI Devices 1.0, section 4 and table 4-1). This
+-- is no second definition of what is read: laws say that both are equal.
 --
 --   under_after u b       the packet under way with one byte more
 --   left_of u             how many bytes are still to come of it that its cable carries
 --   note_at u b at        the note on a packet that the byte at an offset makes known
 --   packet_behind p bs    what a reader keeps of packets behind bytes
-use Rattle.std.specs.Prelude.{ℕ, ◌+◌, ◌-◌, ◌/◌, ◌%◌, Bool, not, ◌&&◌, ◌||◌, ◌==◌, nat_le, if◌then◌else◌, List, [], ◌∷◌, Option, Some, None, is_none}
+use Rattle.std.specs.Prelude.{ℕ, ◌+◌, ◌-◌, ◌/◌, ◌%◌, Bool, not, ◌&&◌, ◌||◌, ◌==◌, nat_le, if◌then◌else◌, List, [], ◌∷◌}
+use Rattle.std.specs.Prelude.{Option, Some, None, is_none}
 use Rattle.mb_message.specs.declared.note.Note.{Note}
 use Rattle.mb_message.specs.declared.note.NoteKind.TheVariants.{ReservedCin, CinMismatch}
 use Rattle.mb_usb.specs.declared.under.Under.{Under}
 use Rattle.mb_usb.specs.declared.under.Under.TheVariants.{Between, One, Two, Three}
-use Rattle.mb_usb.specs.declared.under.Packet.{Packet}
+use Rattle.mb_usb.specs.declared.under.Packets.{Packets}
 use Rattle.mb_usb.specs.Reading.{used, suits_cin}
 
 abbrev pub under_after : Under → ℕ → Under
@@ -51,13 +52,13 @@ note_at (Three h a b) c at =
     if nat_le (h % 16) 1 then None
     else (if suits_cin (h % 16) a b c then None else Some (record { kind = CinMismatch; at = at - 3 }))
 
-abbrev pub packet_after : Packet → ℕ → Packet
+abbrev pub packet_after : Packets → ℕ → Packets
 packet_after p b = record { offset = p.offset + 1; under = under_after p.under b; due = note_at p.under b p.offset }
 
-abbrev pub packet_behind : Packet → List ℕ → Packet
+abbrev pub packet_behind : Packets → List ℕ → Packets
 packet_behind p [] = p
 packet_behind p (b ∷ bs) = packet_behind (packet_after p b) bs
 
 -- A note is told before the packet's next byte that a cable carries.
-abbrev pub is_rested : Packet → Bool
+abbrev pub is_rested : Packets → Bool
 is_rested p = is_none p.due || (left_of p.under == 0)

@@ -1,6 +1,6 @@
--- What a list of marks is written as on a cable (USB Device Class Definition for MIDI Devices 1.0, section 4 and table 4-1;
--- MIDI 1.0 Detailed Specification 4.2, "System Exclusive Messages"). The list is looked at as a whole: each packet has a
--- place, that of the mark at which it can be written, and packets stand in the order of their places.
+-- What a list of marks is written as on a cable (USB Device Class Definition for MIDI Devices 1.0, section 4 and table
+-- 4-1; MIDI 1.0 Detailed Specification 4.2, "System Exclusive Messages"). The list is looked at as a whole: each packet
+-- has a place, that of the mark at which it can be written, and packets stand in the order of their places.
 --
 --   usb_packets cable 0 ms     the packets of a list, each at its place
 --   usb_written cable ms       their bytes
@@ -18,7 +18,8 @@ pub record Placed (X : Type 0) : Type 0 where
 abbrev pub at_place : {X : Type 0} → ℕ → X → Placed X
 at_place i x = record { place = i; thing = x }
 
--- "System Exclusive Messages": the bytes behind F0, F7 last if it has one; real-time messages between them are none of it
+-- "System Exclusive Messages": the bytes behind F0, F7 last if it has one; real-time messages between them are none of
+-- it
 abbrev pub rest_of_sysex : ℕ → List Sign → List (Placed ℕ)
 rest_of_sysex i [] = []
 rest_of_sysex i (ByteSign b ∷ ms) = at_place i b ∷ rest_of_sysex (i + 1) ms
@@ -40,13 +41,14 @@ threes (x ∷ []) = (x ∷ []) ∷ []
 threes (x ∷ y ∷ []) = (x ∷ y ∷ []) ∷ []
 threes (x ∷ y ∷ z ∷ xs) = (x ∷ y ∷ z ∷ []) ∷ threes xs
 
--- USB-MIDI 1.0, table 4-1, numbers 4 to 7 and F: a part with F7 is a packet of number 5, 6 or 7, by its length, and a three without
--- F7 one of number 4, each at its last byte. Where one or two bytes are left without F7, each is a packet of number F
--- where the SysEx ends.
+-- USB-MIDI 1.0, table 4-1, numbers 4 to 7 and F: a part with F7 is a packet of number 5, 6 or 7, by its length, and a
+-- three without F7 one of number 4, each at its last byte. Where one or two bytes are left without F7, each is a packet
+-- of number F where the SysEx ends.
 abbrev pub part_packets : (cable end : ℕ) → List (Placed ℕ) → List (Placed (List ℕ))
 part_packets cable end [] = []
 part_packets cable end (x ∷ []) =
-    if x.thing == 0xf7 then at_place x.place (packet cable 5 (x.thing ∷ [])) ∷ [] else at_place end (single cable x.thing) ∷ []
+    if x.thing == 0xf7 then at_place x.place (packet cable 5 (x.thing ∷ [])) ∷ []
+    else at_place end (single cable x.thing) ∷ []
 part_packets cable end (x ∷ y ∷ []) =
     if y.thing == 0xf7 then at_place y.place (packet cable 6 (x.thing ∷ y.thing ∷ [])) ∷ []
     else at_place end (single cable x.thing) ∷ at_place end (single cable y.thing) ∷ []
@@ -63,10 +65,12 @@ usb_packets cable i (ShortSign s a b ∷ ms) =
     at_place i (packet cable (cin_of_short s) (s ∷ data_of s a b)) ∷ usb_packets cable (i + 1) ms
 usb_packets cable i (RtSign b ∷ ms) = at_place i (single cable b) ∷ usb_packets cable (i + 1) ms
 usb_packets cable i (OpenSign ∷ ms) =
-    sysex_packets cable (end_of_sysex (i + 1) ms) (at_place i 0xf0 ∷ rest_of_sysex (i + 1) ms) ++ usb_packets cable (i + 1) ms
+    sysex_packets cable (end_of_sysex (i + 1) ms) (at_place i 0xf0 ∷ rest_of_sysex (i + 1) ms) ++
+    usb_packets cable (i + 1) ms
 usb_packets cable i (_ ∷ ms) = usb_packets cable (i + 1) ms
 
--- USB-MIDI 1.0, section 4, lets a real-time packet stand between those of a SysEx: so they stand in the order of their places.
+-- USB-MIDI 1.0, section 4, lets a real-time packet stand between those of a SysEx: so they stand in the order of their
+-- places.
 abbrev pub put_at : {X : Type 0} → Placed X → List (Placed X) → List (Placed X)
 put_at x [] = x ∷ []
 put_at x (y ∷ ys) = if nat_le x.place y.place then x ∷ y ∷ ys else y ∷ put_at x ys

@@ -1,6 +1,7 @@
 //! The reader of one cable.
 
-ghost use Rattle.std.specs.Prelude.{◌≡◌, ◌+◌, ◌*◌, ◌%◌, ◌<◌, ◌≤◌, ◌^◌, ◌↔◌, true, false, [], ℕ, List, length, take, OnSome, IsSome, IfSome, IfNone};
+ghost use Rattle.std.specs.Prelude.{◌≡◌, ◌+◌, ◌*◌, ◌%◌, ◌<◌, ◌≤◌, ◌^◌, ◌↔◌, true, false, [], ℕ, List, length, take};
+ghost use Rattle.std.specs.Prelude.{OnSome, IsSome, IfSome, IfNone};
 ghost use Rattle.mb_stream.specs.Groups.{last_of};
 ghost use Rattle.mb_stream.specs.Told.{Known, at_end};
 ghost use Rattle.mb_stream.specs.Reading.{told_signs};
@@ -8,11 +9,12 @@ ghost use Rattle.mb_stream.specs.ReaderLaw.{answer, IsLongest, breaks, StatusNex
 ghost use Rattle.mb_usb.specs.Under.{left_of, taken_of};
 ghost use Rattle.mb_din.specs.State.{State, fresh, free_now, Rests};
 ghost use Rattle.mb_usb.specs.Reading.{cable_payload};
-ghost use Rattle.mb_usb.specs.Cables.{cable_so_far, CableHolds, CableStands, CableTells, CableAllTold};
-ghost use Rattle.mb_usb.specs.State.{cable_packets, cable_offset, cable_taken, cable_to_come, cable_owed, owed_alone, IsBehind};
+ghost use Rattle.mb_usb.specs.Cables.{cable_so_far, CableHolds, CableStands, CableTells, CableAllTold, CableAnew};
+ghost use Rattle.mb_usb.specs.State.{cable_packets, cable_offset, cable_taken, cable_to_come, cable_owed, owed_alone};
+ghost use Rattle.mb_usb.specs.State.{IsBehind};
 
 use crate::carry::carry;
-use crate::under::{Packet, is_of, taken};
+use crate::under::{Packets, is_of, taken};
 use crate::whole::{pass_over, take_packet};
 use mb_din::DinReader;
 use mb_message::Seen;
@@ -23,7 +25,7 @@ use std::marker::Model;
 #[derive(Drop)]
 pub struct CableReader {
     cable: u8,
-    packet: Packet,
+    packet: Packets,
     din: DinReader,
 }
 
@@ -48,15 +50,15 @@ impl CableReader {
     {
         CableReader {
             cable,
-            packet: Packet::new(),
+            packet: Packets::new(),
             din: DinReader::new(),
         }
     }
 
     /// The next mark or note of the bytes that were taken and of the input, which it takes from the front of the input:
-    /// of the cable, or a note of any packet. What a byte makes known of earlier ones is told while it still stands in the
-    /// input, and before anything of it is kept. `None` comes where the input is used up and all of it is told. A run is
-    /// lent from the input, and is never empty.
+    /// of the cable, or a note of any packet. What a byte makes known of earlier ones is told while it still stands in
+    /// the input, and before anything of it is kept. `None` comes where the input is used up and all of it is told. A
+    /// run is lent from the input, and is never empty.
     #[inline(always)]
     pub fn next<'a>(&mut self, input: &mut &'a [u8]) -> Option<Seen<'a>>
         requires early { cable_offset self.old + length input.old.now < 2 ^ 63 }
@@ -70,8 +72,8 @@ impl CableReader {
         ensures longest { IfSome result (IsLongest (take (cable_to_come self.new) input.new.now)) }
         ensures none { IfNone result (input.new.now ≡ []) }
 
-        // What a status breaks is told of before the status is taken: it still stands in the input, and nothing is begun,
-        // running or open on the cable.
+        // What a status breaks is told of before the status is taken: it still stands in the input, and nothing is
+        // begun, running or open on the cable.
         ensures before { breaks (answer result) ≡ true → StatusNext input.new.now × Rests self.new.reader }
 
         // No more marks than the input has bytes: where one byte is handed in, one mark at most comes back.
@@ -94,6 +96,10 @@ impl CableReader {
         ensures when { IsSome result ↔ (free_now self.old.reader ≡ false) }
         ensures as_fresh { self.new.reader ≡ record fresh { offset = self.old.reader.offset } }
         ensures packets { cable_packets self.new ≡ cable_packets self.old }
+
+        // Behind whole packets of which all was told, what `next` tells from here on: as where the cable carried
+        // nothing yet.
+        ensures anew { CableAnew self.old self.new }
     {
         self.din.finish()
     }
@@ -112,13 +118,14 @@ impl CableReader {
 #[inline(always)]
 fn read_cable<'a>(
     own: u8,
-    packet: &mut Packet,
+    packet: &mut Packets,
     din: &mut DinReader,
     input: &mut &'a [u8],
 ) -> Option<Seen<'a>>
     requires early { packet.old.offset + length input.old.now < 2 ^ 63 }
     requires behind { IsBehind packet.old din.old }
-    ensures tells { Tells bare_told (cable_so_far own) (CableHolds own packet.old din.old) (CableHolds own packet.new din.new) input.old.now input.new.now (answer result) }
+    ensures tells { Tells bare_told (cable_so_far own) (CableHolds own packet.old din.old)
+        (CableHolds own packet.new din.new) input.old.now input.new.now (answer result) }
     ensures some { OnSome result (answer result ≡ [] → ⊥) }
     ensures all_told { IfNone result (AllTold (cable_so_far own) (CableHolds own packet.old din.old) input.old.now) }
     ensures behind { IsBehind packet.new din.new }

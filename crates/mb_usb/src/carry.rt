@@ -1,20 +1,25 @@
 //! Bytes that a packet carries, handed to their cable's reader.
 
-ghost use Rattle.std.specs.Prelude.{◌≡◌, ◌+◌, ◌*◌, ◌<◌, ◌≤◌, ◌^◌, ◌≢◌, true, None, [], ℕ, List, length, take, drop, OnSome, IfSome, IfNone};
+ghost use Rattle.std.specs.Prelude.{◌≡◌, ◌+◌, ◌*◌, ◌<◌, ◌≤◌, ◌^◌, ◌≢◌, true, None, [], ℕ, List, length, take, drop};
+ghost use Rattle.std.specs.Prelude.{OnSome, IfSome, IfNone};
 ghost use Rattle.mb_stream.specs.Reading.{told_signs};
 ghost use Rattle.mb_stream.specs.ReaderLaw.{answer, IsLongest, breaks, StatusNext};
 ghost use Rattle.mb_din.specs.State.{owed, Rests};
 ghost use Rattle.mb_usb.specs.Under.{left_of, is_rested};
 ghost use Rattle.mb_usb.specs.Hands.{Hands};
 
-use crate::under::{Packet, left};
+use crate::under::{Packets, left};
 use mb_din::DinReader;
 use mb_message::Seen;
 
-/// Hands the bytes that the packet under way carries, and that stand in the input, to their cable's reader, which takes a
-/// front of them.
+/// Hands the bytes that the packet under way carries, and that stand in the input, to their cable's reader, which takes
+/// a front of them.
 #[inline(always)]
-pub fn carry<'a>(packet: &mut Packet, din: &mut DinReader, input: &mut &'a [u8]) -> Option<Seen<'a>>
+pub fn carry<'a>(
+    packet: &mut Packets,
+    din: &mut DinReader,
+    input: &mut &'a [u8],
+) -> Option<Seen<'a>>
     requires early { packet.old.offset + length input.old.now < 2 ^ 63 }
     requires behind { din.old.offset ≤ packet.old.offset }
     ensures hands { Hands packet.old packet.new din.old din.new input.old.now input.new.now (answer result) }

@@ -11,10 +11,11 @@ ghost use Rattle.mb_usb.specs.Reading.{cable_payload, usb_reading, usb_whole};
 ghost use Rattle.mb_usb.specs.Running.{usb_at, usb_from, pending_from};
 ghost use Rattle.mb_usb.specs.Written.{usb_live, usb_written};
 
-/// What a list is written as, mark by mark: the live part is what is written at each mark, the rest is what waits at the
-/// end, and an abort there would write the same.
+/// What a list is written as, mark by mark: the live part is what is written at each mark, the rest is what waits at
+/// the end, and an abort there would write the same.
 pub fn usb_writing()
-    ensures live { (cable : ℕ) (marks : List Sign) → suited marks ≡ true → usb_live cable marks ≡ usb_from cable [] marks }
+    ensures live { (cable : ℕ) (marks : List Sign) → suited marks ≡ true →
+        usb_live cable marks ≡ usb_from cable [] marks }
     ensures rest { (cable : ℕ) (marks : List Sign) → suited marks ≡ true →
         usb_written cable marks ≡ usb_live cable marks ++ usb_at cable (pending_from [] marks) AbortSign }
     ensures broken { (cable : ℕ) (marks : List Sign) → suited marks ≡ true → is_open marks ≡ true →
@@ -28,11 +29,13 @@ pub fn usb_carries()
         denotation (signs_of (usb_reading cable (usb_written cable marks))) ≡ denotation marks }
     ensures one_more { (cable : ℕ) (marks : List Sign) → suited marks ≡ true → AreValid marks →
         length (signs_of (usb_reading cable (usb_written cable marks))) ≤ length marks + 1 }
-    ensures size { (cable : ℕ) (marks : List Sign) → suited marks ≡ true → length (usb_written cable marks) ≤ 4 * length marks }
+    ensures size { (cable : ℕ) (marks : List Sign) → suited marks ≡ true →
+        length (usb_written cable marks) ≤ 4 * length marks }
     ensures clean { (cable : ℕ) (marks : List Sign) → suited marks ≡ true → AreValid marks →
         notes_of (usb_reading cable (usb_written cable marks)) ≡ [] }
     ensures whole { (cable : ℕ) (marks : List Sign) → suited marks ≡ true → usb_whole (usb_written cable marks) ≡ true }
-    ensures alone { (cable other : ℕ) (marks : List Sign) → (other ≡ cable → ⊥) → cable_payload other (usb_written cable marks) ≡ [] }
+    ensures alone { (cable other : ℕ) (marks : List Sign) → (other ≡ cable → ⊥) →
+        cable_payload other (usb_written cable marks) ≡ [] }
 {}
 
 /// The marks of the reading of any bytes are valid and stand where a stream can have them. They are at most two a byte.
@@ -44,5 +47,6 @@ pub fn usb_reading_suits()
 
 /// What is known of a cable at some bytes of a recording stays known, whatever follows.
 pub fn usb_reading_grows()
-    ensures { (cable : ℕ) (bytes more : List ℕ) → IsFront (cable_so_far cable bytes) (cable_so_far cable (bytes ++ more)) }
+    ensures { (cable : ℕ) (bytes more : List ℕ) →
+        IsFront (cable_so_far cable bytes) (cable_so_far cable (bytes ++ more)) }
 {}

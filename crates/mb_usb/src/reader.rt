@@ -1,6 +1,7 @@
 //! The reader of all cables.
 
-ghost use Rattle.std.specs.Prelude.{◌≡◌, ◌≢◌, ◌+◌, ◌*◌, ◌/◌, ◌%◌, ◌<◌, ◌≤◌, ◌^◌, ◌↔◌, true, false, None, [], ℕ, List, length, take, drop, OnSome, IsSome, IfSome, IfNone};
+ghost use Rattle.std.specs.Prelude.{◌≡◌, ◌≢◌, ◌+◌, ◌*◌, ◌/◌, ◌%◌, ◌<◌, ◌≤◌, ◌^◌, ◌↔◌, true, false, None, [], ℕ, List};
+ghost use Rattle.std.specs.Prelude.{length, take, drop, OnSome, IsSome, IfSome, IfNone};
 ghost use Rattle.mb_stream.specs.ReaderLaw.{answer, IsLongest, breaks, StatusNext, Tells, AllTold};
 ghost use Rattle.mb_din.specs.State.{fresh, free_now, Rests};
 ghost use Rattle.mb_usb.specs.Under.{left_of, head_of, taken_of};
@@ -11,11 +12,12 @@ ghost use Rattle.mb_stream.specs.Told.{at_end};
 ghost use Rattle.mb_stream.specs.Reading.{told_signs};
 ghost use Rattle.mb_ports.specs.Events.{Ported};
 ghost use Rattle.mb_usb.specs.Reading.{cable_payload};
-ghost use Rattle.mb_usb.specs.Cables.{all_cables_so_far, UsbHolds, UsbStands, UsbTells, UsbAllTold};
-ghost use Rattle.mb_usb.specs.State.{UsbState, usb_packets, usb_offset, usb_taken, usb_to_come, usb_reader, usb_owed, owed_of, AreBehind, reader_at};
+ghost use Rattle.mb_usb.specs.Cables.{all_cables_so_far, UsbHolds, UsbStands, UsbTells, UsbAllTold, UsbAnew};
+ghost use Rattle.mb_usb.specs.State.{UsbState, usb_packets, usb_offset, usb_taken, usb_to_come, usb_reader, usb_owed};
+ghost use Rattle.mb_usb.specs.State.{owed_of, AreBehind, reader_at};
 
 use crate::carry::carry;
-use crate::under::{Packet, cable, left, taken};
+use crate::under::{Packets, cable, left, taken};
 use mb_din::DinReader;
 use mb_message::{PortSeen, Seen};
 use std::array;
@@ -24,7 +26,7 @@ use std::marker::Model;
 /// Reads USB-MIDI event packets that come in pieces: the streams of all sixteen cables, and the notes on packets.
 #[derive(Drop)]
 pub struct UsbReader {
-    packet: Packet,
+    packet: Packets,
     dins: [DinReader; 16],
 }
 
@@ -45,7 +47,7 @@ impl UsbReader {
         ensures stands { UsbStands result [] [] }
     {
         UsbReader {
-            packet: Packet::new(),
+            packet: Packets::new(),
             dins: array::from_fn(
                 |_index| -> DinReader
                     ensures { result ≡ fresh }
@@ -56,8 +58,8 @@ impl UsbReader {
 
     /// The next mark or note of the bytes that were taken and of the input, which it takes from the front of the input:
     /// of a cable, or a note of a packet. What a byte makes known of earlier ones is told while it still stands in the
-    /// input, and before anything of it is kept. `None` comes where the input is used up and all of it is told. A run is
-    /// lent from the input, and is never empty.
+    /// input, and before anything of it is kept. `None` comes where the input is used up and all of it is told. A run
+    /// is lent from the input, and is never empty.
     #[inline(always)]
     pub fn next<'a>(&mut self, input: &mut &'a [u8]) -> Option<PortSeen<'a>>
         requires early { usb_offset self.old + length input.old.now < 2 ^ 63 }
@@ -70,8 +72,8 @@ impl UsbReader {
         ensures longest { IfSome result (IsLongestOf (take (usb_to_come self.new) input.new.now)) }
         ensures none { IfNone result (input.new.now ≡ []) }
 
-        // What a status breaks is told of before the status is taken: it still stands in the input, and nothing is begun,
-        // running or open on its cable.
+        // What a status breaks is told of before the status is taken: it still stands in the input, and nothing is
+        // begun, running or open on its cable.
         ensures before { IfSome result (BreaksBefore (usb_reader self.new) input.new.now) }
 
         // No more marks than the input has bytes: where one byte is handed in, one mark at most comes back.
@@ -84,20 +86,27 @@ impl UsbReader {
         read(&mut self.packet, &mut self.dins, input)
     }
 
-    /// What only the end of the recording makes known on a cable, 0 to 15: a message that was begun and not finished, or
-    /// an open SysEx. The cable then stands as a fresh one does: a second call answers `None`.
+    /// What only the end of the recording makes known on a cable, 0 to 15: a message that was begun and not finished,
+    /// or an open SysEx. The cable then stands as a fresh one does: a second call answers `None`.
     pub fn finish_port(&mut self, cable: u8) -> Option<Seen<'static>>
         requires { cable < 16 }
         ensures told { (bytes : List ℕ) → UsbStands self.old bytes (all_cables_so_far bytes) →
             answer result ≡ at_end (last_of (cable_payload cable bytes)) }
+
         // The same where all was told of the bytes, and other cables were finished since.
         ensures in_turn { (was : UsbState) → usb_reader self.old cable ≡ usb_reader was cable →
-            (bytes : List ℕ) → UsbStands was bytes (all_cables_so_far bytes) → answer result ≡ at_end (last_of (cable_payload cable bytes)) }
+            (bytes : List ℕ) → UsbStands was bytes (all_cables_so_far bytes) →
+            answer result ≡ at_end (last_of (cable_payload cable bytes)) }
+
         ensures some { OnSome result (answer result ≡ [] → ⊥) }
         ensures when { IsSome result ↔ (free_now (usb_reader self.old cable) ≡ false) }
         ensures as_fresh { usb_reader self.new cable ≡ record fresh { offset = (usb_reader self.old cable).offset } }
         ensures others { (c : ℕ) → c ≢ cable → usb_reader self.new c ≡ usb_reader self.old c }
         ensures packets { usb_packets self.new ≡ usb_packets self.old }
+
+        // Behind whole packets of which all was told, what `next` tells from here on: of that cable, as where it
+        // carried nothing yet.
+        ensures anew { UsbAnew cable self.old self.new }
     {
         self.dins[cable as usize].finish()
     }
@@ -115,13 +124,14 @@ impl UsbReader {
 /// The next mark or note.
 #[inline(always)]
 fn read<'a>(
-    packet: &mut Packet,
+    packet: &mut Packets,
     dins: &mut [DinReader; 16],
     input: &mut &'a [u8],
 ) -> Option<PortSeen<'a>>
     requires early { packet.old.offset + length input.old.now < 2 ^ 63 }
     requires behind { AreBehind packet.old dins.old }
-    ensures tells { Tells bare all_cables_so_far (UsbHolds packet.old dins.old) (UsbHolds packet.new dins.new) input.old.now input.new.now (port_answer result) }
+    ensures tells { Tells bare all_cables_so_far (UsbHolds packet.old dins.old)
+        (UsbHolds packet.new dins.new) input.old.now input.new.now (port_answer result) }
     ensures some { OnSome result (port_answer result ≡ [] → ⊥) }
     ensures all_told { IfNone result (AllTold all_cables_so_far (UsbHolds packet.old dins.old) input.old.now) }
     ensures behind { AreBehind packet.new dins.new }
@@ -130,7 +140,9 @@ fn read<'a>(
     ensures before { IfSome result (BreaksBefore (reader_at dins.new) input.new.now) }
     ensures few { length (port_signs (port_answer result)) ≤ length input.old.now }
     ensures none { IfNone result (input.new.now ≡ []) }
-    ensures progress { OnSome result (2 * length input.new.now + owed_of packet.new (reader_at dins.new (head_of packet.new.under / 16)) < 2 * length input.old.now + owed_of packet.old (reader_at dins.old (head_of packet.old.under / 16))) }
+    ensures progress { OnSome result
+        (2 * length input.new.now + owed_of packet.new (reader_at dins.new (head_of packet.new.under / 16)) <
+        2 * length input.old.now + owed_of packet.old (reader_at dins.old (head_of packet.old.under / 16))) }
 {
     'bytes: loop {
         if let Some(note) = packet.take_due() {
@@ -151,11 +163,11 @@ fn read<'a>(
     }
 }
 
-/// Hands the bytes that the packet under way carries, and that stand in the input, to the reader of its cable, which takes
-/// a front of them.
+/// Hands the bytes that the packet under way carries, and that stand in the input, to the reader of its cable, which
+/// takes a front of them.
 #[inline(always)]
 fn carry_at<'a>(
-    packet: &mut Packet,
+    packet: &mut Packets,
     dins: &mut [DinReader; 16],
     port: u8,
     input: &mut &'a [u8],
@@ -166,7 +178,8 @@ fn carry_at<'a>(
     requires below { port < 16 }
     requires rested { packet.old.due ≡ None }
     requires carries { left_of packet.old.under ≢ 0 }
-    ensures hands { Hands packet.old packet.new (reader_at dins.old port) (reader_at dins.new port) input.old.now input.new.now (answer result) }
+    ensures hands { Hands packet.old packet.new (reader_at dins.old port)
+        (reader_at dins.new port) input.old.now input.new.now (answer result) }
     ensures others { (c : ℕ) → c ≢ port → reader_at dins.new c ≡ reader_at dins.old c }
     ensures behind { AreBehind packet.new dins.new }
     ensures some { OnSome result (answer result ≡ [] → ⊥) }
@@ -175,7 +188,9 @@ fn carry_at<'a>(
     ensures few { length (told_signs (answer result)) ≤ length input.old.now }
     ensures none { IfNone result (input.new.now ≡ drop (left_of packet.old.under) input.old.now) }
     ensures end { packet.new.offset + length input.new.now ≡ packet.old.offset + length input.old.now }
-    ensures progress { OnSome result (2 * length input.new.now + owed_of packet.new (reader_at dins.new (head_of packet.new.under / 16)) < 2 * length input.old.now + owed_of packet.old (reader_at dins.old (head_of packet.old.under / 16))) }
+    ensures progress { OnSome result
+        (2 * length input.new.now + owed_of packet.new (reader_at dins.new (head_of packet.new.under / 16)) <
+        2 * length input.old.now + owed_of packet.old (reader_at dins.old (head_of packet.old.under / 16))) }
 {
     carry(packet, &mut dins[port as usize], input)
 }

@@ -2,7 +2,8 @@
 
 ghost use Rattle.std.specs.Prelude.{◌≡◌, ◌+◌, ◌/◌, ◌^◌, ◌<◌, ◌≤◌, length, List, [], ◌∷◌};
 ghost use Rattle.mb_usb.specs.Reading.{used, suits_cin};
-ghost use Rattle.mb_usb.specs.Under.{packet_after, packet_behind, under_after, left_of, note_at, head_of, is_of_cable, taken_of};
+ghost use Rattle.mb_usb.specs.Under.{packet_after, packet_behind, under_after, left_of, note_at, head_of, is_of_cable};
+ghost use Rattle.mb_usb.specs.Under.{taken_of};
 
 use mb_message::{Note, NoteKind};
 
@@ -21,18 +22,18 @@ pub enum Under {
 
 /// The offset of the next byte, the packet under way, and a note of a packet that is to be told.
 #[derive(Debug, Drop)]
-pub struct Packet {
+pub struct Packets {
     pub offset: u64,
     pub under: Under,
     pub due: Option<Note>,
 }
 
-impl Packet {
+impl Packets {
     /// Before any byte.
-    pub fn new() -> Packet
+    pub fn new() -> Packets
         ensures { result ≡ record { offset = 0; under = Under.Between; due = None } }
     {
-        Packet {
+        Packets {
             offset: 0,
             under: Under::Between,
             due: None,

@@ -2,9 +2,10 @@
 
 ghost use Rattle.std.specs.Prelude.{◌≡◌, ◌+◌, ◌*◌, ◌<◌, ◌≤◌, true, false, List, [], ◌++◌, length, map};
 ghost use Rattle.arrayvec.specs.ArrayVec.{array_vec_len};
-ghost use Rattle.mb_message.specs.Signs.{Sign, ShortSign, ByteSign, EndSign, AbortSign, suits_event, IsShortRun, open_behind, signs_of_event};
+ghost use Rattle.mb_message.specs.Signs.{Sign, ShortSign, ByteSign, EndSign, AbortSign, suits_event, IsShortRun};
+ghost use Rattle.mb_message.specs.Signs.{open_behind, signs_of_event};
 ghost use Rattle.mb_stream.specs.Appended.{Appended};
-ghost use Rattle.mb_usb.specs.Held.{held, opens};
+ghost use Rattle.mb_usb.specs.Waiting.{waiting, opens};
 ghost use Rattle.mb_usb.specs.Running.{usb_at, usb_from, pending_from};
 ghost use Rattle.mb_usb.specs.Writer.{Stands, fresh};
 ghost use Rattle.mb_usb.specs.Written.{usb_live, usb_written};
@@ -44,9 +45,9 @@ impl Model for UsbWriter {
 
     ghost Value = { Writer };
 
-    ghost use Rattle.mb_usb.specs.Held.{held, opens};
+    ghost use Rattle.mb_usb.specs.Waiting.{waiting, opens};
 
-    ghost view = { λ w. record { cable = w.cable; in_sysex = opens w.sysex; pending = held w.sysex } };
+    ghost view = { λ w. record { cable = w.cable; in_sysex = opens w.sysex; pending = waiting w.sysex } };
 
     ghost invariant = { λ w. w.cable < 16 };
 }
@@ -82,7 +83,8 @@ impl UsbWriter {
         ensures cable { self.new.cable ≡ self.old.cable }
         ensures in_sysex { self.new.in_sysex ≡ open_behind self.old.in_sysex ev.entry }
         ensures len { array_vec_len out.new ≤ array_vec_len out.old + PUT_ROOM }
-        ensures stands { (marks : List Sign) → Stands self.old marks → Stands self.new (marks ++ signs_of_event ev.entry) }
+        ensures stands { (marks : List Sign) → Stands self.old marks →
+            Stands self.new (marks ++ signs_of_event ev.entry) }
         ensures written { (marks : List Sign) → Stands self.old marks →
             Appended out.old.items out.new.items
             (usb_live self.old.cable marks) (usb_live self.old.cable (marks ++ signs_of_event ev.entry)) }
@@ -112,7 +114,8 @@ impl UsbWriter {
         ensures cable { self.new.cable ≡ self.old.cable }
         ensures in_sysex { self.new.in_sysex ≡ open_behind self.old.in_sysex ev.entry }
         ensures pending { self.new.pending ≡ pending_from self.old.pending (signs_of_event ev.entry) }
-        ensures written { out.new.items ≡ out.old.items ++ usb_from self.old.cable self.old.pending (signs_of_event ev.entry) }
+        ensures written { out.new.items ≡
+            out.old.items ++ usb_from self.old.cable self.old.pending (signs_of_event ev.entry) }
         ensures len { array_vec_len out.new ≤ array_vec_len out.old + PUT_ROOM }
     {
         match ev {
@@ -137,7 +140,8 @@ impl UsbWriter {
 fn put_short(cable: u8, short: Short, out: &mut Buf)
     requires cable { cable < 16 }
     requires room { array_vec_len out.old + 4 ≤ 1024 }
-    ensures written { out.new.items ≡ out.old.items ++ usb_at cable [] (ShortSign short.status short.data1 short.data2) }
+    ensures written { out.new.items ≡
+        out.old.items ++ usb_at cable [] (ShortSign short.status short.data1 short.data2) }
     ensures len { array_vec_len out.new ≡ array_vec_len out.old + 4 }
 {
     let number = number_of_short(short.status());
@@ -155,8 +159,8 @@ fn put_run(cable: u8, sysex: Sysex, bytes: &[u8], out: &mut Buf) -> Sysex
     requires cable { cable < 16 }
     requires room { 3 * array_vec_len out.old + 4 * (length bytes.now + 2) ≤ 3 * 1024 }
     ensures opened { 0 < length bytes.now → opens result ≡ true }
-    ensures waits { held result ≡ pending_from (held sysex) (map ByteSign bytes.now) }
-    ensures written { out.new.items ≡ out.old.items ++ usb_from cable (held sysex) (map ByteSign bytes.now) }
+    ensures waits { waiting result ≡ pending_from (waiting sysex) (map ByteSign bytes.now) }
+    ensures written { out.new.items ≡ out.old.items ++ usb_from cable (waiting sysex) (map ByteSign bytes.now) }
     ensures len { 3 * array_vec_len out.new ≤ 3 * array_vec_len out.old + 4 * (length bytes.now + 2) }
 {
     match sysex {
@@ -186,7 +190,7 @@ fn put_threes(cable: u8, bytes: &[u8], out: &mut Buf) -> Sysex
     requires cable { cable < 16 }
     requires room { 3 * array_vec_len out.old + 4 * length bytes.now ≤ 3 * 1024 }
     ensures opened { opens result ≡ true }
-    ensures waits { held result ≡ pending_from [] (map ByteSign bytes.now) }
+    ensures waits { waiting result ≡ pending_from [] (map ByteSign bytes.now) }
     ensures written { out.new.items ≡ out.old.items ++ usb_from cable [] (map ByteSign bytes.now) }
     ensures len { 3 * array_vec_len out.new ≤ 3 * array_vec_len out.old + 4 * length bytes.now }
 {
@@ -207,7 +211,7 @@ fn put_threes(cable: u8, bytes: &[u8], out: &mut Buf) -> Sysex
 fn put_end(cable: u8, sysex: Sysex, out: &mut Buf)
     requires cable { cable < 16 }
     requires room { array_vec_len out.old + 4 ≤ 1024 }
-    ensures written { out.new.items ≡ out.old.items ++ usb_at cable (held sysex) EndSign }
+    ensures written { out.new.items ≡ out.old.items ++ usb_at cable (waiting sysex) EndSign }
     ensures len { array_vec_len out.new ≡ array_vec_len out.old + 4 }
 {
     match sysex {
@@ -222,7 +226,7 @@ fn put_end(cable: u8, sysex: Sysex, out: &mut Buf)
 fn put_rest(cable: u8, sysex: Sysex, out: &mut Buf)
     requires cable { cable < 16 }
     requires room { array_vec_len out.old + 8 ≤ 1024 }
-    ensures written { out.new.items ≡ out.old.items ++ usb_at cable (held sysex) AbortSign }
+    ensures written { out.new.items ≡ out.old.items ++ usb_at cable (waiting sysex) AbortSign }
     ensures len { array_vec_len out.new ≤ array_vec_len out.old + 8 }
 {
     match sysex {

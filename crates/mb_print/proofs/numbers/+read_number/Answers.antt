@@ -1,8 +1,10 @@
 use Rattle.std.proofs.Common.{◌<◌, ◌^◌, ◌/◌, length, ap, arith, inl, inr, Some}
 use Rattle.std.proofs.lemmas.Grind.{common_steps}
-use Rattle.mb_print.proofs.DigitLemmas.{split, one_digit_is, one_more_is, decimal-some, none_left, not_tens, not_ones, none_some, some_is}
+use Rattle.mb_print.proofs.DigitLemmas.{split, one_digit_is, one_more_is, decimal-some, none_left, not_tens, not_ones}
+use Rattle.mb_print.proofs.DigitLemmas.{none_some, some_is}
 use Rattle.mb_print.proofs.numbers.+read_number.Goals as goal
-use Rattle.mb_print.proofs.numbers.+read_number.Goals.{then-tens-eq0-via-then-tens-eq0, then-tens-eq0-via-else-tens-eq0+then-most-tens}
+use Rattle.mb_print.proofs.numbers.+read_number.Goals.{then-tens-eq0-via-then-tens-eq0}
+use Rattle.mb_print.proofs.numbers.+read_number.Goals.{then-tens-eq0-via-else-tens-eq0+then-most-tens}
 
 pub returns-in_default-clause-only : goal.returns-in_default-clause-only
 returns-in_default-clause-only t c = λ n most e.

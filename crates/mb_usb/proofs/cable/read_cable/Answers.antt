@@ -2,7 +2,7 @@ use Rattle.std.proofs.Common.{◌≡◌, ◌≢◌, ◌<◌, ◌∙◌, ℕ, Non
 use Rattle.std.proofs.lemmas.List.{nil_from_length}
 use Rattle.mb_stream.specs.Told.{Notes}
 use Rattle.mb_stream.specs.ReaderLaw.{answer}
-use Rattle.mb_usb.specs.declared.under.Packet.{Packet}
+use Rattle.mb_usb.specs.declared.under.Packets.{Packets}
 use Rattle.mb_usb.specs.Under.{left_of, is_of_cable}
 use Rattle.mb_usb.specs.State.{owed_alone}
 use Rattle.mb_usb.proofs.ReadLemmas.{shorter}
@@ -40,7 +40,7 @@ pub returns-in_default-split_first-clause-all_told : goal.returns-in_default-spl
 returns-in_default-split_first-clause-all_told c =
     all_told-literal c.args.own c.args.packet.now c.take_packet.new.packet c.args.din.now c.take_packet.new.din c.args.input.now.now c.take_packet.new.input.now
     (then-none c.args.own c.args.packet.now c.bytes.packet c.take_packet.new.packet c.args.din.now c.take_packet.new.din c.args.input.now.now c.take_packet.new.input.now (kept-tells c.args.own c.args.packet.now c.bytes.packet c.args.din.now c.bytes.din c.take_packet.new.din c.args.input.now.now c.bytes.input.now c.take_packet.new.input.now c.bytes.invariant.tells c.in_default-take_packet.ensures.reader c.in_default-take_packet.ensures.input) (sym c.take_due.ensures.due ∙ c.in_default.is) (c.in_default-take_packet.ensures.packet ∙ c.take_due.ensures.told))
-    (ap (λ (p : Packet). p.due) (c.in_default-take_packet.ensures.packet ∙ c.take_due.ensures.told)) (nil_from_length c.take_packet.new.input.now (search rules))
+    (ap (λ (p : Packets). p.due) (c.in_default-take_packet.ensures.packet ∙ c.take_due.ensures.told)) (nil_from_length c.take_packet.new.input.now (search rules))
 
 pub bytes-preserved : goal.bytes-preserved
 bytes-preserved c =
@@ -54,7 +54,7 @@ bytes-preserved c =
           (kept-behind c.bytes.packet c.bytes.din c.take_packet.new.din c.bytes.invariant.behind c.in_default-take_packet.ensures.reader) same over;
       tells = then-over c.args.own c.args.packet.now c.bytes.packet c.take_packet.new.packet c.pass_over.new.packet c.args.din.now c.take_packet.new.din c.args.input.now.now c.take_packet.new.input.now c.pass_over.result.now before
           (sym c.take_due.ensures.due ∙ c.in_default.is) same over;
-      ends = omega (arith, over-ends c.args.own c.take_packet.new.packet c.pass_over.new.packet c.take_packet.new.input.now c.pass_over.result.now over, ap (λ (p : Packet). p.offset) same, ap length c.in_default-take_packet.ensures.input, c.bytes.invariant.ends);
+      ends = omega (arith, over-ends c.args.own c.take_packet.new.packet c.pass_over.new.packet c.take_packet.new.input.now c.pass_over.result.now over, ap (λ (p : Packets). p.offset) same, ap length c.in_default-take_packet.ensures.input, c.bytes.invariant.ends);
       owes = falls c.args.own c.pass_over.new.packet c.take_packet.new.din c.pass_over.result.now c.take_packet.new.input.now _ _ less (kept-owes c.args.own c.bytes.packet c.bytes.din c.take_packet.new.din c.bytes.input.now c.take_packet.new.input.now _ c.bytes.invariant.owes c.in_default-take_packet.ensures.reader c.in_default-take_packet.ensures.input);
     }
 
@@ -87,12 +87,12 @@ pub returns-in-Some-carry-clause-progress : goal.returns-in-Some-carry-clause-pr
 returns-in-Some-carry-clause-progress c =
     let of_it : is_of_cable c.args.own c.take_packet.new.packet.under ≡ true = sym c.is_of.ensures ∙ c.if-is_of.true in
     let same = same-undue c.bytes.packet c.take_packet.new.packet (sym c.take_due.ensures.due ∙ c.in_default.is) (c.in_default-take_packet.ensures.packet ∙ c.take_due.ensures.told) in
-    let owes : owed_alone c.args.own c.bytes.packet c.take_packet.new.din ≡ owed_alone c.args.own c.take_packet.new.packet c.take_packet.new.din = ap (λ (p : Packet). owed_alone c.args.own p c.take_packet.new.din) same in
+    let owes : owed_alone c.args.own c.bytes.packet c.take_packet.new.din ≡ owed_alone c.args.own c.take_packet.new.packet c.take_packet.new.din = ap (λ (p : Packets). owed_alone c.args.own p c.take_packet.new.din) same in
     omega (
       arith,
       owes,
       (kept-owes c.args.own c.bytes.packet c.bytes.din c.take_packet.new.din c.bytes.input.now c.take_packet.new.input.now _ c.bytes.invariant.owes c.in_default-take_packet.ensures.reader c.in_default-take_packet.ensures.input),
-      carry-owed c.args.own c.take_packet.new.packet c.carry.new.packet c.take_packet.new.din c.carry.new.din c.take_packet.new.input.now c.carry.new.input.now (answer (Some c.in-Some-carry.seen)) c.in-Some-carry.ensures.hands (ap (λ (p : Packet). p.due) (c.in_default-take_packet.ensures.packet ∙ c.take_due.ensures.told)) of_it c.in-Some-carry.ensures.progress,
+      carry-owed c.args.own c.take_packet.new.packet c.carry.new.packet c.take_packet.new.din c.carry.new.din c.take_packet.new.input.now c.carry.new.input.now (answer (Some c.in-Some-carry.seen)) c.in-Some-carry.ensures.hands (ap (λ (p : Packets). p.due) (c.in_default-take_packet.ensures.packet ∙ c.take_due.ensures.told)) of_it c.in-Some-carry.ensures.progress,
     )
 
 pub returns-in-Some-take_packet-clause-few : goal.returns-in-Some-take_packet-clause-few

@@ -1,6 +1,6 @@
 use Rattle.std.proofs.Common.{◌≢◌, ◌/◌, ◌<◌, ◌∙◌, None, Some, ap, length, sym, refl, rules, arith}
 use Rattle.std.proofs.lemmas.List.{nil_from_length}
-use Rattle.mb_usb.specs.declared.under.Packet.{Packet}
+use Rattle.mb_usb.specs.declared.under.Packets.{Packets}
 use Rattle.mb_usb.specs.Under.{left_of, head_of}
 use Rattle.mb_usb.specs.State.{reader_at}
 use Rattle.mb_usb.specs.Cables.{UsbHolds}
@@ -56,7 +56,7 @@ returns-in_default-split_first-clause-tells c =
 pub returns-in_default-split_first-clause-all_told : goal.returns-in_default-split_first-clause-all_told
 returns-in_default-split_first-clause-all_told c =
     then-all_told (UsbHolds c.args.packet.now c.args.dins.now) c.args.input.now.now c.bytes.input.now c.take_due.new.self c.bytes.dins (returns-in_default-split_first-clause-tells c)
-    (ap (λ (p : Packet). p.due) c.take_due.ensures.told) (nil_from_length c.bytes.input.now (search rules))
+    (ap (λ (p : Packets). p.due) c.take_due.ensures.told) (nil_from_length c.bytes.input.now (search rules))
 
 pub returns-in-Some-carry_at-clause-tells : goal.returns-in-Some-carry_at-clause-tells
 returns-in-Some-carry_at-clause-tells c =

@@ -9,8 +9,8 @@ opens Closed = false
 opens _ = true
 
 -- the bytes that fill no packet yet
-abbrev pub held : Sysex → List ℕ
-held Closed = []
-held Whole = []
-held (One a) = a ∷ []
-held (Two a b) = a ∷ b ∷ []
+abbrev pub waiting : Sysex → List ℕ
+waiting Closed = []
+waiting Whole = []
+waiting (One a) = a ∷ []
+waiting (Two a b) = a ∷ b ∷ []
