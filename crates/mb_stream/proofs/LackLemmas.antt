@@ -234,7 +234,14 @@ items-lack : (o : Option (List ℕ)) (xs ys : List Sign) → Suited (opened o) (
     ItemsLack (items_from o xs) (items_from o (xs ++ ys)) (full_bytes ys)
 items-lack None [] ys s h =
     let t = tail None ys s h in
-    record { items = []; broken_less = []; broken_full = t.broken; less_is = refl; full_is = t.means; row_is = t.row_is }
+    record {
+      items = [];
+      broken_less = [];
+      broken_full = t.broken;
+      less_is = refl;
+      full_is = t.means;
+      row_is = t.row_is;
+    }
 items-lack (Some ds) [] ys s h =
     let t = tail (Some ds) ys s h in
     record {

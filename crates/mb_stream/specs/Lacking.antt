@@ -1,8 +1,8 @@
--- How the meaning of what was written so far may lag behind the meaning of all (MIDI 1.0 Detailed Specification 4.2, "System
--- Exclusive Messages"): bytes of SysEx that wait at its end may be missing. That the SysEx at the end, broken off or still
--- open, are looked at as one row of bytes is the project's own; data bytes are below F0, so the row says which is which.
+-- How the meaning of what is written so far may lag behind that of all (MIDI 1.0 Detailed Specification 4.2, "System
+-- Exclusive Messages"): bytes of SysEx at its end may be missing. That SysEx without an end, broken off or open yet, are
+-- looked at as one row of bytes is the project's own. Data bytes are below F0, so a row says which SysEx has which.
 --
---   row broken           the bytes of SysEx without an end, from each F0 on, one behind the other
+--   row broken           the bytes of SysEx without an end, each from its F0 on, one behind the other
 --   Lacks n less full    the same, but that at most n bytes are missing at the end of the row with which the items end
 use Rattle.std.specs.Prelude.{◌≡◌, ℕ, ◌≤◌, List, ◌∷◌, ◌++◌, length, map, flat_map}
 use Rattle.mb_stream.specs.Denotation.{Meant, Broken, Denotation}

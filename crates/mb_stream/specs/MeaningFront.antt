@@ -1,5 +1,5 @@
--- What the front of a list of marks means, beside what all of it means (MIDI 1.0 Detailed Specification 4.2, "System Exclusive
--- Messages"): the items begin those of all, but that a SysEx that is open yet is a broken one.
+-- What the front of a list of marks means, beside what all of it means (MIDI 1.0 Detailed Specification 4.2, "System
+-- Exclusive Messages"): the items begin those of all, but that a SysEx that is open yet is a broken one.
 --
 --   StartsWith data item         the item is a SysEx whose data begin so
 --   IsOpenYet front rest         nothing stands behind the items that both have, or the SysEx that is open yet

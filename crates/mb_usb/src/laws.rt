@@ -36,8 +36,8 @@ pub fn usb_carries()
     ensures alone { (cable other : ℕ) (marks : List Sign) → (other ≡ cable → ⊥) → cable_payload other (usb_written cable marks) ≡ [] }
 {}
 
-/// What is known of the live part of written marks lacks two bytes of SysEx at most of what they mean: those that fill no
-/// packet yet.
+/// What is known of the live part of written marks lacks two bytes of SysEx at most of what they mean: those that fill
+/// no packet yet.
 pub fn usb_holds_back()
     ensures { (cable : ℕ) (marks : List Sign) → suited marks ≡ true → AreValid marks →
         Lacks 2 (denotation (signs_of (usb_so_far cable (usb_live cable marks)))) (denotation marks) }
