@@ -15,7 +15,7 @@ use Rattle.mb_stream.proofs.FrontMeans.{front-means, means-end}
 use Rattle.mb_stream.proofs.LackLemmas.{lacks-nothing, lacks-then, lacks-weaken}
 use Rattle.mb_stream.proofs.StandingLemmas.{both}
 use Rattle.mb_usb.proofs.LiveLaw.{lacks_two}
-use Rattle.mb_carrier.specs.Carrier.{payload_of, known, known_signs, end_told, marks_of, marks_so_far, den}
+use Rattle.mb_carrier.specs.Carrier.{payload_of, known, known_signs, end_told, marks_so_far, den}
 use Rattle.mb_carrier.specs.Carrier.{puts_so_far, live}
 use Rattle.mb_carrier.specs.Conversion.{moments_of, none_set, carried_so_far, live_through, through}
 use Rattle.mb_carrier.specs.Live.{HoldsBack, HeldBackBy, bytes_held, most_held}
