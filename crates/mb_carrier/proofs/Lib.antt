@@ -5,6 +5,7 @@ pub mod Fronts
 pub mod GrowLemmas
 pub mod GrowSpecs
 pub mod LineLemmas
+pub mod LiveLemmas
 pub mod ListLemmas
 pub mod NoteLemmas
 pub mod PlaceLemmas

@@ -8,6 +8,7 @@ pub mod Line
 pub mod Lines
 pub mod Listed
 pub mod Listing
+pub mod Live
 pub mod Port
 pub mod SpecLaws
 pub mod Step

@@ -1,6 +1,8 @@
 pub mod Appended
 pub mod Denotation
 pub mod Groups
+pub mod Lacking
+pub mod MeaningFront
 pub mod Order
 pub mod Payload
 pub mod Puts

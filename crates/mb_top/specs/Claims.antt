@@ -1,6 +1,7 @@
--- Claims about a call at the end of its input, each said of all commands of a kind.
+-- Claims about a call, each said of all commands of a kind; at the end of its input, where nothing else is said.
 --
 --   OfConversion ..     of a conversion: by its specs, what it read and what it wrote
+--   OfConversionSoFar   the same before the end of its input, no write having failed
 --   OfListing ..        of a listing: by whether it is traced, its spec, what it read and what it wrote
 --   OfReader ..         of a command that reads one recording: by its spec, and all that there was to read
 --   IsTallied ..        the tally that a command asks for stands first on standard error
@@ -12,13 +13,20 @@ use Rattle.mb_words.specs.Command.{Command, Converting, Listing, Means}
 use Rattle.mb_outside.specs.Cause.{Rose}
 use Rattle.mb_message.specs.Front.{IsFront}
 use Rattle.mb_top.specs.Output.{ReadsOne, tally_of}
-use Rattle.mb_top.specs.Answer.{taken_off, added_to, read_all}
+use Rattle.mb_top.specs.Answer.{taken_off, added_to, read_all, read_part}
 
 abbrev pub OfConversion : (tells : Bool) (words : List (List ℕ)) (answer : ℕ) (before after : Contents)
     (claim : (first : Spec) (between : List Spec) (last : Spec) (read written : List ℕ) → Type 0) → Type 0
 OfConversion tells words answer before after claim =
     (tally : Bool) (first : Spec) (between : List Spec) (last : Spec) → IsTrue tells →
     Means words (Converting tally first between last) → read_all answer ≡ true →
+    claim first between last (taken_off 0 before after) (added_to 1 before after)
+
+abbrev pub OfConversionSoFar : (tells : Bool) (words : List (List ℕ)) (answer : ℕ) (before after : Contents)
+    (claim : (first : Spec) (between : List Spec) (last : Spec) (read written : List ℕ) → Type 0) → Type 0
+OfConversionSoFar tells words answer before after claim =
+    (tally : Bool) (first : Spec) (between : List Spec) (last : Spec) → IsTrue tells →
+    Means words (Converting tally first between last) → read_part answer ≡ true →
     claim first between last (taken_off 0 before after) (added_to 1 before after)
 
 abbrev pub OfListing : (tells : Bool) (words : List (List ℕ)) (answer : ℕ) (before after : Contents)

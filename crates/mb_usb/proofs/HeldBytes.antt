@@ -7,6 +7,7 @@ use Rattle.mb_stream.specs.Spelling.{data_of, full_bytes}
 use Rattle.mb_stream.proofs.ByteKinds.{DataKind, RtKind, kind}
 use Rattle.mb_stream.proofs.Machine.{Reader, Rest, Waits, Ready, Begun, Inside, tells, after, tell, read, behind, read-append, tell-append, behind-append}
 use Rattle.mb_stream.proofs.Late.{Closed, late, denotation-late, length-late}
+use Rattle.mb_stream.proofs.Passable.{Passable, Passable-append}
 use Rattle.mb_stream.proofs.Suits.{Suit}
 use Rattle.mb_stream.proofs.SpelledMarks.{read-spelled, full_bytes-spelled}
 
@@ -73,25 +74,6 @@ Same-behind : (zs xs ys : List Sign) → Same xs ys → Same (zs ++ xs) (zs ++ y
 Same-behind [] xs ys h = h
 Same-behind (z ∷ zs) xs ys h = Same-cons z (zs ++ xs) (zs ++ ys) (Same-behind zs xs ys h)
 
--- marks that a real-time mark may pass: none of them counts in its place
-abbrev Passable : List Sign → Type 0
-Passable [] = Unit {0}
-Passable (OpenSign ∷ ms) = Passable ms
-Passable (ByteSign b ∷ ms) = Passable ms
-Passable (AbortSign ∷ ms) = Passable ms
-Passable (ShortSign s a b ∷ ms) = ⊥
-Passable (RtSign b ∷ ms) = ⊥
-Passable (EndSign ∷ ms) = ⊥
-
-Passable-append : (xs ys : List Sign) → Passable xs → Passable ys → Passable (xs ++ ys)
-Passable-append [] ys h k = k
-Passable-append (OpenSign ∷ xs) ys h k = Passable-append xs ys h k
-Passable-append (ByteSign b ∷ xs) ys h k = Passable-append xs ys h k
-Passable-append (AbortSign ∷ xs) ys h k = Passable-append xs ys h k
-Passable-append (ShortSign s a b ∷ xs) ys h k = absurd h
-Passable-append (RtSign b ∷ xs) ys h k = absurd h
-Passable-append (EndSign ∷ xs) ys h k = absurd h
-
 early-byte_items : (o : Option (List ℕ)) (b d : ℕ) (xs : List Sign) → items_from o (RtSign b ∷ ByteSign d ∷ xs) ≡ items_from o (ByteSign d ∷ RtSign b ∷ xs)
 early-byte_items None b d xs = refl
 early-byte_items (Some ds) b d xs = refl
@@ -119,17 +101,17 @@ early b (RtSign c ∷ zs) xs h = absurd h
 early b (EndSign ∷ zs) xs h = absurd h
 
 -- Bytes of an open SysEx that wait, and the reader before them: behind them it is inside.
-record Waiting (r : Reader) (p : List ℕ) : Type 0 where
-  passes : Passable (tell r p)
-  inside : behind r p ≡ Inside
+pub record Waiting (r : Reader) (p : List ℕ) : Type 0 where
+  pub passes : Passable (tell r p)
+  pub inside : behind r p ≡ Inside
 
 -- nothing waits where no SysEx is open
-abbrev Held : Bool → Reader → List ℕ → Type 0
+abbrev pub Held : Bool → Reader → List ℕ → Type 0
 Held false r [] = Unit {0}
 Held false r (x ∷ p) = ⊥
 Held true r p = Waiting r p
 
-Waiting-push : (r : Reader) (p : List ℕ) (b : ℕ) → Waiting r p → kind b ≡ DataKind → Waiting r (p ++ b ∷ [])
+pub Waiting-push : (r : Reader) (p : List ℕ) (b : ℕ) → Waiting r p → kind b ≡ DataKind → Waiting r (p ++ b ∷ [])
 Waiting-push r p b h e = record {
   passes =
       subst (λ xs. Passable xs) (sym (tell-append r p (b ∷ [])))
@@ -141,7 +123,7 @@ Waiting-push r p b h e = record {
 inside-data : (r : Reader) (b : ℕ) → r ≡ Inside → kind b ≡ DataKind → behind r (b ∷ []) ≡ Inside
 inside-data r b h e = ap₂ (λ x k. after x k b) h e
 
-Waiting-start : (r : Reader) → Waiting r (0xf0 ∷ [])
+pub Waiting-start : (r : Reader) → Waiting r (0xf0 ∷ [])
 Waiting-start r = record { passes = start_passes r; inside = refl }
   where
     start_passes : (r : Reader) → Passable (tell r (0xf0 ∷ []))

@@ -8,6 +8,8 @@ pub mod GoodCuts
 pub mod HandsLemmas
 pub mod HeldBytes
 pub mod HeldClean
+pub mod LiveBytes
+pub mod LiveLaw
 pub mod Longest
 pub mod Loops
 pub mod PacketFacts

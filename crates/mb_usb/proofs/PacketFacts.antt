@@ -36,6 +36,10 @@ pub AreGood-append : (xs ys : List Cut) → AreGood xs → AreGood ys → AreGoo
 AreGood-append [] ys h k = k
 AreGood-append (x ∷ xs) ys h k = (h.0, AreGood-append xs ys h.1 k)
 
+pub AreGood-front : (xs ys : List Cut) → AreGood (xs ++ ys) → AreGood xs
+AreGood-front [] ys h = tt
+AreGood-front (x ∷ xs) ys h = (h.0, AreGood-front xs ys h.1)
+
 abbrev pub written : ℕ → List Cut → List ℕ
 written cable xs = flat_map (packet_of cable) xs
 

@@ -8,7 +8,7 @@ use Rattle.mb_stream.specs.Told.{Known, Notes}
 use Rattle.mb_stream.specs.Order.{in_order}
 use Rattle.mb_stream.specs.Reading.{payload_told, end_part, sign_in, note_in, signs_of, notes_of}
 use Rattle.mb_stream.specs.Working.{RisesFrom}
-use Rattle.mb_stream.proofs.Machine.{Rest, read, Clean, read-tell}
+use Rattle.mb_stream.proofs.Machine.{Rest, tell, read, Clean, read-tell}
 use Rattle.mb_stream.proofs.OrderedMarks.{marked, marked-append, signs-beside}
 use Rattle.mb_stream.proofs.LiteralMarks.{AllHeard, heard_bytes, heard_from-all, parts-signs, parts-notes, so_far-signs, so_far-notes, end_part-signs, end_part-notes}
 use Rattle.mb_din.proofs.FewMarks.{length-heard_from}
@@ -109,17 +109,22 @@ units_marked : (ps : List Packet) → marked (flat_map unit_note ps) ≡ []
 units_marked [] = refl
 units_marked (p ∷ ps) = marked-append (unit_note p) (flat_map unit_note ps) ∙ ap₂ (λ ks ls. ks ++ ls) (unit_marked p) (units_marked ps)
 
--- of any bytes
+-- of any bytes, the part that is known of them
+pub usb_so_far-signs : (cable : ℕ) (bytes : List ℕ) →
+    signs_of (usb_so_far cable bytes) ≡ tell Rest (heard_bytes (cable_payload cable bytes))
+usb_so_far-signs cable bytes =
+    let es : List Entry = cable_payload cable bytes in
+    let units : List Known = flat_map unit_note (packets bytes) in
+    parts-signs (in_order (λ k. k) (payload_told es ++ units))
+    ∙ (signs-beside (payload_told es) units (units_marked (packets bytes))
+    ∙ so_far-signs 0 es (payload-rises cable bytes) (payload-heard cable bytes))
+
+-- and all
 pub usb-signs : (cable : ℕ) (bytes : List ℕ) → signs_of (usb_reading cable bytes) ≡ read Rest (heard_bytes (cable_payload cable bytes))
 usb-signs cable bytes =
     let es : List Entry = cable_payload cable bytes in
-    let units : List Known = flat_map unit_note (packets bytes) in
     flat_map-append (λ p. sign_in p.told) (usb_so_far cable bytes) (end_part 0 es)
-    ∙ (ap₂ (λ ms ns. ms ++ ns)
-    (parts-signs (in_order (λ k. k) (payload_told es ++ units))
-    ∙ (signs-beside (payload_told es) units (units_marked (packets bytes))
-    ∙ so_far-signs 0 es (payload-rises cable bytes) (payload-heard cable bytes)))
-    (end_part-signs 0 es (payload-heard cable bytes))
+    ∙ (ap₂ (λ ms ns. ms ++ ns) (usb_so_far-signs cable bytes) (end_part-signs 0 es (payload-heard cable bytes))
     ∙ sym (read-tell Rest (heard_bytes es)))
 
 -- where no packet has a note, and the bytes that are carried have none

@@ -29,7 +29,7 @@ singles-written : (cable : ℕ) (p : List ℕ) → flat_map (λ bytes. bytes) (m
 singles-written cable [] = refl
 singles-written cable (b ∷ p) = ap (λ bs. single cable b ++ bs) (singles-written cable p)
 
-at-written : (cable : ℕ) (p : List ℕ) (m : Sign) → usb_at cable p m ≡ written cable (cuts_at p m)
+pub at-written : (cable : ℕ) (p : List ℕ) (m : Sign) → usb_at cable p m ≡ written cable (cuts_at p m)
 at-written cable p (ShortSign s a b) = refl
 at-written cable p (RtSign b) = refl
 at-written cable p OpenSign = refl
@@ -52,7 +52,7 @@ cuts-written cable p (m ∷ ms) =
 
 -- What they carry.
 
-singles-bytes : (p : List ℕ) → cut_bytes (singles p) ≡ p
+pub singles-bytes : (p : List ℕ) → cut_bytes (singles p) ≡ p
 singles-bytes [] = refl
 singles-bytes (b ∷ p) = ap (λ bs. b ∷ bs) (singles-bytes p)
 

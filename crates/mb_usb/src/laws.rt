@@ -3,11 +3,12 @@
 ghost use Rattle.std.specs.Prelude.{◌≡◌, ◌+◌, ◌*◌, ◌≤◌, ℕ, List, [], ◌∷◌, ◌++◌, length, true};
 ghost use Rattle.mb_message.specs.Signs.{Sign, AbortSign};
 ghost use Rattle.mb_stream.specs.Denotation.{denotation};
+ghost use Rattle.mb_stream.specs.Lacking.{Lacks};
 ghost use Rattle.mb_stream.specs.Reading.{notes_of, signs_of};
 ghost use Rattle.mb_stream.specs.Standing.{AreValid, suited, is_open};
 ghost use Rattle.mb_message.specs.Front.{IsFront};
 ghost use Rattle.mb_usb.specs.Cables.{cable_so_far};
-ghost use Rattle.mb_usb.specs.Reading.{cable_payload, usb_reading, usb_whole};
+ghost use Rattle.mb_usb.specs.Reading.{cable_payload, usb_reading, usb_so_far, usb_whole};
 ghost use Rattle.mb_usb.specs.Running.{usb_at, usb_from, pending_from};
 ghost use Rattle.mb_usb.specs.Written.{usb_live, usb_written};
 
@@ -36,6 +37,13 @@ pub fn usb_carries()
     ensures whole { (cable : ℕ) (marks : List Sign) → suited marks ≡ true → usb_whole (usb_written cable marks) ≡ true }
     ensures alone { (cable other : ℕ) (marks : List Sign) → (other ≡ cable → ⊥) →
         cable_payload other (usb_written cable marks) ≡ [] }
+{}
+
+/// What is known of the live part of written marks lacks two bytes of SysEx at most of what they mean: those that fill
+/// no packet yet.
+pub fn usb_holds_back()
+    ensures { (cable : ℕ) (marks : List Sign) → suited marks ≡ true → AreValid marks →
+        Lacks 2 (denotation (signs_of (usb_so_far cable (usb_live cable marks)))) (denotation marks) }
 {}
 
 /// The marks of the reading of any bytes are valid and stand where a stream can have them. They are at most two a byte.

@@ -18,4 +18,6 @@ mod ports;
 #[cfg(test)]
 mod row;
 #[cfg(test)]
+mod so_far;
+#[cfg(test)]
 mod words;

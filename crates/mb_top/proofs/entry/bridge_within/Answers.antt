@@ -8,6 +8,7 @@ use Rattle.mb_top.specs.declared.status.Status.TheVariants.{Done, Noted}
 use Rattle.mb_top.proofs.AnswerLemmas.{answered, went_through, ends-at_status, cut-at_end, reads_all, completes}
 use Rattle.mb_top.proofs.AnswerLemmas.{is_canonical, usage_only, is_meant, read_faults, write_fault, no_write_fault}
 use Rattle.mb_top.proofs.AnswerLemmas.{wants_memory, noted_alone}
+use Rattle.mb_top.proofs.SoFarLemmas.{live_written, so_far-lacks, so_far-held, so_far-stays, so_far-ends, so_far-front}
 use Rattle.mb_top.proofs.entry.bridge_within.Goals as goal
 
 pub returns-clause-contents : goal.returns-clause-contents
@@ -46,6 +47,30 @@ returns-clause-canonical g c = λ tally first between last tells m all byte_line
     let t = went_through _ _ _ _ _ _ _ (Converting tally first between last) all m
     (returns-clause-contents g c tells) in
     is_canonical first between last _ _ byte_line t.output_is
+
+pub returns-clause-so_far : goal.returns-clause-so_far
+returns-clause-so_far g c = λ tally first between last tells m part.
+    live_written _ _ _ _ _ _ _ (Converting tally first between last) part m (returns-clause-contents g c tells)
+
+pub returns-clause-lacks : goal.returns-clause-lacks
+returns-clause-lacks g c = λ tally first between last tells m part.
+    so_far-lacks first between last _ _ (returns-clause-so_far g c tally first between last tells m part)
+
+pub returns-clause-held_back : goal.returns-clause-held_back
+returns-clause-held_back g c = λ tally first between last tells m part.
+    so_far-held first between last _ _ (returns-clause-so_far g c tally first between last tells m part)
+
+pub returns-clause-stays : goal.returns-clause-stays
+returns-clause-stays g c = λ tally first between last tells m part.
+    so_far-stays first between last _ _ (returns-clause-so_far g c tally first between last tells m part)
+
+pub returns-clause-ends : goal.returns-clause-ends
+returns-clause-ends g c = λ tally first between last tells m part.
+    so_far-ends first between last _ _ (returns-clause-so_far g c tally first between last tells m part)
+
+pub returns-clause-front : goal.returns-clause-front
+returns-clause-front g c = λ tally first between last tells m part.
+    so_far-front first between last _ _ (returns-clause-so_far g c tally first between last tells m part)
 
 pub returns-clause-tally : goal.returns-clause-tally
 returns-clause-tally g c = λ command tells m all.

@@ -1,0 +1,80 @@
+-- Before the end of the input: what was written is the live part of what was read, and what that means.
+use Rattle.std.proofs.Common.{◌≡◌, ℕ, true, false, List, [], ◌∷◌, ◌++◌, sym, ◌∙◌, ap, subst}
+use Rattle.mb_message.specs.Front.{IsFront}
+use Rattle.mb_outside.specs.Contents.{Contents}
+use Rattle.mb_stream.specs.Lacking.{Lacks}
+use Rattle.mb_stream.specs.MeaningFront.{IsMeaningFront}
+use Rattle.mb_carrier.specs.Carrier.{den}
+use Rattle.mb_carrier.specs.Conversion.{through, live_through}
+use Rattle.mb_carrier.specs.Live.{HeldBackBy, most_held}
+use Rattle.mb_carrier.specs.declared.spec.Spec.{Spec}
+use Rattle.mb_carrier.proofs.ConversionLemmas.{laws}
+use Rattle.mb_carrier.proofs.GrowLemmas.{live-grows, live-ends}
+use Rattle.mb_carrier.proofs.GrowSpecs.{grows}
+use Rattle.mb_carrier.proofs.LiveLemmas as live
+use Rattle.mb_words.specs.Command.{Command, Means}
+use Rattle.mb_top.specs.Output.{live_output_of}
+use Rattle.mb_top.specs.Answer.{Answered, EndsAs, taken_off, added_to, code_of, read_part}
+use Rattle.mb_top.specs.declared.status.Status.{Status}
+use Rattle.mb_top.specs.declared.status.Status.TheVariants.{Done, Noted, Usage, Cut, NoMemory, Stopped}
+use Rattle.mb_top.specs.declared.status.Stop.TheVariants.{ReadFault, Refused, TooLong}
+
+wrong : false ≡ true → ⊥
+wrong e = cc
+
+-- a claim about a status before the end of the input, no write having failed
+before_the_end : (claim : Status → Type 0) → claim (Stopped ReadFault) → claim (Stopped TooLong) → (s : Status) →
+    read_part (code_of s) ≡ true → claim s
+before_the_end claim fault long (Stopped ReadFault) e = fault
+before_the_end claim fault long (Stopped TooLong) e = long
+before_the_end claim fault long (Stopped Refused) e = absurd (wrong e)
+before_the_end claim fault long Done e = absurd (wrong e)
+before_the_end claim fault long Noted e = absurd (wrong e)
+before_the_end claim fault long Usage e = absurd (wrong e)
+before_the_end claim fault long Cut e = absurd (wrong e)
+before_the_end claim fault long NoMemory e = absurd (wrong e)
+
+pub live_written : (words : List (List ℕ)) (limit : ℕ) (before after : Contents) (faults faults_now answer : ℕ)
+    (c : Command) →
+    read_part answer ≡ true → Means words c → (a : Answered words limit before after faults faults_now answer) →
+    added_to 1 before after ≡ live_output_of c (taken_off 0 before after)
+live_written words limit before after faults faults_now answer c part m a =
+    before_the_end
+    (λ s. EndsAs c limit (before.left 0) (taken_off 0 before after) (added_to 1 before after) a.tally s →
+    added_to 1 before after ≡ live_output_of c (taken_off 0 before after))
+    (λ ends. ends.0) (λ ends. ends.1) a.status (sym (ap read_part a.number) ∙ part) (a.did c m).ends
+
+pub so_far-lacks : (first : Spec) (between : List Spec) (last : Spec) (read written : List ℕ) →
+    written ≡ live_through first between last read →
+    Lacks (most_held (between ++ last ∷ [])) (den last written) (den first read)
+so_far-lacks first between last read written e =
+    subst (λ (bytes : List ℕ). Lacks (most_held (between ++ last ∷ [])) (den last bytes) (den first read)) (sym e)
+    (live.so_far-lacks first between last read)
+
+pub so_far-held : (first : Spec) (between : List Spec) (last : Spec) (read written : List ℕ) →
+    written ≡ live_through first between last read →
+    HeldBackBy (between ++ last ∷ []) (den first read) (den last written)
+so_far-held first between last read written e =
+    subst (λ (bytes : List ℕ). HeldBackBy (between ++ last ∷ []) (den first read) (den last bytes)) (sym e)
+    (live.so_far-held first between last read)
+
+pub so_far-stays : (first : Spec) (between : List Spec) (last : Spec) (read written : List ℕ) →
+    written ≡ live_through first between last read → (more : List ℕ) →
+    IsFront written (live_through first between last (read ++ more))
+so_far-stays first between last read written e more =
+    subst (λ (bytes : List ℕ). IsFront bytes (live_through first between last (read ++ more))) (sym e)
+    (live-grows laws grows first between last read more)
+
+pub so_far-ends : (first : Spec) (between : List Spec) (last : Spec) (read written : List ℕ) →
+    written ≡ live_through first between last read → (more : List ℕ) →
+    IsFront written (through first between last (read ++ more))
+so_far-ends first between last read written e more =
+    subst (λ (bytes : List ℕ). IsFront bytes (through first between last (read ++ more))) (sym e)
+    (live-ends laws grows first between last read more)
+
+pub so_far-front : (first : Spec) (between : List Spec) (last : Spec) (read written : List ℕ) →
+    written ≡ live_through first between last read → (more : List ℕ) →
+    IsMeaningFront (den last written) (den first (read ++ more))
+so_far-front first between last read written e more =
+    subst (λ (bytes : List ℕ). IsMeaningFront (den last bytes) (den first (read ++ more))) (sym e)
+    (live.so_far-front first between last read more)
