@@ -3,7 +3,7 @@ use Rattle.std.proofs.Common.{◌≡◌, ℕ, zero, suc, ◌+◌, ◌-◌, ◌*�
 use Rattle.std.proofs.Common.{flat_map, get_or, refl, sym, ◌∙◌, ap, arith, append_assoc}
 use Rattle.std.proofs.Math.ListN.{set}
 use Rattle.std.proofs.lemmas.List.{set-append_right}
-use Rattle.mb_fire.specs.Written.{quadlet, block, no_bytes, alone}
+use Rattle.mb_fire.specs.Written.{quadlet, block, no_bytes, alone, packet_of}
 use Rattle.mb_fire.proofs.WrittenPackets.{length-block}
 
 -- so many quadlets without a byte
@@ -119,3 +119,30 @@ blocks-filled k m b n out between behind low len e f =
     f ∙ (ap (λ z. filled z (n + quadlet_at k m) b) e
     ∙ (filled-behind out (flat_map (block k) no_bytes) n (quadlet_at k m) b len ∙
     ap (λ z. out ++ z) (filled-blocks k m b no_bytes low (none-at m low) ∙ ap (flat_map (block k)) (alone-is m b low))))
+
+-- A whole packet of the first eight ports.
+
+abbrev pub first_empty : List ℕ
+first_empty = 0 ∷ 40 ∷ 0 ∷ 1 ∷ 0 ∷ 0 ∷ 0x90 ∷ 0x02 ∷ 0xff ∷ 0xff ∷ empty 8
+
+first-by : (m b d : ℕ) → m < 8 → filled (set first_empty 5 d) (10 + 4 * m) b ≡ packet_of 0 d (alone m b)
+first-by zero b d low = refl
+first-by (suc zero) b d low = refl
+first-by (suc (suc zero)) b d low = refl
+first-by (suc (suc (suc zero))) b d low = refl
+first-by (suc (suc (suc (suc zero)))) b d low = refl
+first-by (suc (suc (suc (suc (suc zero))))) b d low = refl
+first-by (suc (suc (suc (suc (suc (suc zero)))))) b d low = refl
+first-by (suc (suc (suc (suc (suc (suc (suc zero))))))) b d low = refl
+first-by (suc (suc (suc (suc (suc (suc (suc (suc m)))))))) b d low = absurd (omega arith)
+
+pub first-filled : (m b d n : ℕ) (out appended counted behind : List ℕ) → m < 8 → length out ≡ n →
+    appended ≡ out ++ first_empty → counted ≡ set appended (n + 5) d →
+    behind ≡ filled counted (n + (10 + 4 * m)) b → behind ≡ out ++ packet_of 0 d (alone m b)
+first-filled m b d n out appended counted behind low len e f g =
+    let place : n + 5 - n ≡ 5 = omega arith in
+    let count : counted ≡ out ++ set first_empty 5 d =
+    f ∙ (ap (λ z. set z (n + 5) d) e ∙ (set-append_right out first_empty n (n + 5) d len (omega arith)
+    ∙ ap (λ i. out ++ set first_empty i d) place)) in
+    g ∙ (ap (λ z. filled z (n + (10 + 4 * m)) b) count
+    ∙ (filled-behind out (set first_empty 5 d) n (10 + 4 * m) b len ∙ ap (λ z. out ++ z) (first-by m b d low)))
