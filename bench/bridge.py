@@ -27,14 +27,18 @@ COMMANDS = {
     "convert din din": ("din", ["din", "din"]),
     "convert usb:0 din": ("usb", ["usb", "din"]),
     "convert usb:0 usb:1": ("usb", ["usb", "usb"]),
+    "convert din fw:0": ("din", ["din", "fw"]),
+    "convert fw:0 din": ("fw", ["fw", "din"]),
     "check din": ("din", None),
     "trace din": ("din", None),
     "check usb:0": ("usb", None),
     "trace usb:0": ("usb", None),
+    "check fw:0": ("fw", None),
+    "trace fw:0": ("fw", None),
 }
 KINDS = ["channel messages", "a third SysEx"]
 # what no port sees for long, by the carrier that is read
-FURTHER = {"din": ["real-time alone", "stray data alone"], "usb": ["two cables in turn"]}
+FURTHER = {"din": ["real-time alone", "stray data alone"], "usb": ["two cables in turn"], "fw": ["blocks of three bytes"]}
 SINKS = ["/dev/null", "pipe", "file"]
 
 
@@ -53,8 +57,14 @@ def channel_messages(rng, count):
     return bytes(line)
 
 
+def dense_packet(rng, at):
+    """A FireWire packet of eight blocks, in each of which a port has a note on whole."""
+    notes = (bytes([0x83, 0x90, rng.randrange(128), rng.randrange(128)]) for _ in range(8))
+    return bytes([0, 40, 0, 1, 0, at // 42 * 8 % 256, 0x90, 2, 0xFF, 0xFF]) + b"".join(notes)
+
+
 def recording(program, kind, carrier, size):
-    """Bytes of a kind: one MiB made by chance with a fixed seed, again and again up to the size; as a byte line, or as packets of cable 0."""
+    """Bytes of a kind: one MiB made by chance with a fixed seed, again and again up to the size; as a byte line, or as packets of cable 0 or port 0."""
     rng = random.Random(7)
     block = bytearray()
     while len(block) < MIB:
@@ -62,6 +72,8 @@ def recording(program, kind, carrier, size):
             block.append(rng.choice(b"\xf8\xfa\xfb\xfc\xfe\xff"))
         elif kind == "stray data alone":
             block.append(rng.randrange(128))
+        elif kind == "blocks of three bytes":
+            block += dense_packet(rng, len(block))
         elif kind == "two cables in turn":
             for cable in (0x00, 0x10):
                 block += bytes([cable + 9, 0x90, rng.randrange(128), rng.randrange(128)])
@@ -69,9 +81,10 @@ def recording(program, kind, carrier, size):
             block += channel_messages(rng, 200)
         if kind == "a third SysEx":
             block += b"\xf0" + bytes(rng.randrange(128) for _ in range(rng.randrange(4, 200))) + b"\xf7"
-    if carrier == "usb" and kind in KINDS:
-        block = subprocess.run([program, "convert", "din", "usb:0"], input=block, stdout=subprocess.PIPE, check=True).stdout
-    return bytes(block[:MIB]) * (size // MIB)
+    if carrier != "din" and kind in KINDS:
+        block = subprocess.run([program, "convert", "din", f"{carrier}:0"], input=block, stdout=subprocess.PIPE, check=True).stdout
+    whole = MIB // 42 * 42 if carrier == "fw" else MIB  # packets of 42 bytes
+    return bytes(block[:whole]) * (size // MIB)
 
 
 def run(words, source, sink, room):
@@ -167,6 +180,9 @@ def memory(program, commands, room):
             print(f"{command:20} {size:12} MiB {to_dd:6.3f} {peaks[-1]:9} {nanoseconds:27.2f}", flush=True)
         if carrier == "din":
             dump = [b"\xf0"] + [b"\x55" * MIB] * 96 + [b"\xf7"]
+        elif carrier == "fw":
+            data = bytes([0, 12, 0, 1, 0, 0, 0x90, 2, 0xFF, 0xFF, 0x83, 0x55, 0x55, 0x55])
+            dump = [data[:10] + b"\x81\xf0\x00\x00"] + [data * (MIB // 14)] * 96 + [data[:10] + b"\x81\xf7\x00\x00"]
         else:
             dump = [b"\x04\xf0\x55\x55"] + [b"\x04\x55\x55\x55" * (MIB // 4)] * 96 + [b"\x05\xf7\x00\x00"]
         peaks.append(peak_memory(words, dump))

@@ -30,6 +30,8 @@ refuse convert din
 refuse convert din usb
 refuse convert din usb:
 refuse convert din usb:16
+refuse convert din fw:64
+refuse convert din fw:00
 refuse convert din usb:00
 refuse convert din usb:01
 refuse convert din usb:-1

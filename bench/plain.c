@@ -1,6 +1,7 @@
-// The same work as `midibridge convert`, from a byte line or cable 0 to cable 0, cable 1 or a byte line, in plain C and with the
-// same reads and writes: read at most 512 bytes, convert them, write all that they give, read on. bench/bridge.py compiles and
-// times it. Its words are `din usb`, `din din`, `usb usb` and `usb din`; a cable that is written after one is cable 1.
+// The same work as `midibridge convert`, from a byte line or cable 0 to cable 0, cable 1 or a byte line, and between a byte line and
+// FireWire's port 0, in plain C and with the same reads: read at most 512 bytes, convert them, write all that they give, read on.
+// bench/bridge.py compiles and times it. Its words are `din usb`, `din din`, `usb usb`, `usb din`, `din fw` and `fw din`; a cable that
+// is written after one is cable 1.
 #include <string.h>
 #include <unistd.h>
 
@@ -15,9 +16,17 @@ struct state {
   byte cable;       // that is written, in the high half
   byte head, place; // of the packet under way: its first byte, and how many bytes of it were read
   size_t used;      // bytes in the output
+  byte dbc;         // to FireWire: the count of the next packet
+  // from FireWire: the frame under way
+  enum { HIGH, LOW, HEADER, BLOCKS, REST } part;
+  byte header[8];
+  unsigned size, left;          // bytes of its content, and how many of the part under way are to come
+  unsigned block, blocks;       // the number of the block under way, and how many there are
+  unsigned quadlets, at, midis; // of the block: quadlets behind it, bytes of the quadlet under way, and MIDI conformant ones
+  byte own;                     // bytes of the quadlet that the port still carries
 };
 
-static byte out[4096];
+static byte out[65536];
 
 static inline void put4(struct state *s, byte a, byte b, byte c, byte d) {
   byte *to = out + s->used;
@@ -64,6 +73,23 @@ static inline void start_din(struct state *s) { s->written = 0, byte_din(s, 0xf0
 static inline void end_din(struct state *s) { byte_din(s, 0xf7); }
 static inline void abort_din(struct state *s) { (void)s; }
 
+// The same as FireWire packets of port 0: one a byte, the byte in the first of eight blocks, and no status left out.
+static const byte packet[42] = {0, 40, 0, 1, 0, 0, 0x90, 2, 0xff, 0xff, 0x81, 0, 0, 0, 0x80, 0, 0, 0, 0x80, 0, 0, 0,
+                                0x80, 0, 0, 0, 0x80, 0, 0, 0, 0x80, 0, 0, 0, 0x80, 0, 0, 0, 0x80, 0, 0, 0};
+static inline void byte_fire(struct state *s, byte b) {
+  byte *to = out + s->used;
+  memcpy(to, packet, sizeof packet);
+  to[5] = s->dbc, to[11] = b;
+  s->dbc += 8, s->used += sizeof packet;
+}
+static inline void message_fire(struct state *s, byte status, byte a, byte b) {
+  byte_fire(s, status);
+  if (status != 0xf6) byte_fire(s, a);
+  if (status != 0xf6 && !is_one(status)) byte_fire(s, b);
+}
+static inline void start_fire(struct state *s) { byte_fire(s, 0xf0); }
+static inline void end_fire(struct state *s) { byte_fire(s, 0xf7); }
+
 // One byte of a byte line.
 #define TAKE(s, b, message, real_time, start, data, end, broken)                        \
   if (b < 0x80) {                                                                      \
@@ -101,6 +127,7 @@ static inline void abort_din(struct state *s) { (void)s; }
 
 CONVERT(to_usb, message_usb, real_time_usb, start_usb, byte_usb, end_usb, abort_usb)
 CONVERT(to_din, message_din, byte_din, start_din, byte_din, end_din, abort_din)
+CONVERT(to_fire, message_fire, byte_fire, start_fire, byte_fire, end_fire, abort_din)
 
 // How many bytes of a packet its number uses, and the bytes of cable 0's packets as a byte line.
 static const byte uses[16] = {0, 0, 2, 3, 3, 1, 2, 3, 3, 3, 3, 3, 2, 2, 3, 1};
@@ -125,6 +152,60 @@ static const byte uses[16] = {0, 0, 2, 3, 3, 1, 2, 3, 3, 3, 3, 3, 2, 2, 3, 1};
 CONVERT_PACKETS(packets_to_usb, message_usb, real_time_usb, start_usb, byte_usb, end_usb, abort_usb)
 CONVERT_PACKETS(packets_to_din, message_din, byte_din, start_din, byte_din, end_din, abort_din)
 
+// A header that stands whole: how many blocks follow it, of packets with data.
+static inline void head_fire(struct state *s) {
+  byte *h = s->header;
+  unsigned size = h[0] < 0x40 && h[4] == 0x90 && h[5] != 0xff ? 4u * h[1] : 0;
+  s->blocks = size ? (s->size - 8) / size : 0;
+  s->left = s->size - 8 - s->blocks * size;
+  s->block = s->quadlets = s->at = s->midis = s->own = 0;
+  s->part = s->blocks ? BLOCKS : s->left ? REST : HIGH;
+}
+
+// The first byte of a quadlet: port 0 has the first MIDI conformant quadlet of a block whose count is a multiple of 8.
+static inline void label_fire(struct state *s, byte b) {
+  int midi = (b & 0xfc) == 0x80;
+  s->own = midi && s->midis == 0 && ((s->header[3] + s->block) & 7) == 0 ? b & 3 : 0;
+  s->midis += midi;
+}
+static inline void quadlet_fire(struct state *s) {
+  s->at = 0;
+  if (++s->quadlets < s->header[1]) return;
+  s->quadlets = s->midis = 0;
+  if (++s->block == s->blocks) s->part = s->left ? REST : HIGH;
+}
+
+static void fire_to_din(struct state *kept, const byte *piece, size_t count) {
+  struct state now = *kept, *s = &now;
+  for (size_t i = 0; i < count; i++) {
+    byte b = piece[i];
+    switch (s->part) {
+    case HIGH: s->size = 256u * b, s->part = LOW; break;
+    case LOW:
+      s->size += b, s->at = 0, s->left = s->size;
+      s->part = s->size >= 8 ? HEADER : s->size ? REST : HIGH;
+      break;
+    case HEADER:
+      s->header[s->at++] = b;
+      if (s->at == 8) head_fire(s);
+      break;
+    case BLOCKS:
+      if (s->at == 0) {
+        label_fire(s, b);
+      } else if (s->own) {
+        s->own--;
+        TAKE(s, b, message_din, byte_din, start_din, byte_din, end_din, abort_din)
+      }
+      if (++s->at == 4) quadlet_fire(s);
+      break;
+    case REST:
+      if (--s->left == 0) s->part = HIGH;
+      break;
+    }
+  }
+  *kept = now;
+}
+
 static int write_out(struct state *s) {
   for (size_t done = 0; done < s->used;) {
     ssize_t count = write(1, out + done, s->used - done);
@@ -138,9 +219,13 @@ static int write_out(struct state *s) {
 int main(int count, char **words) {
   if (count != 3) return 2;
   int packets = strcmp(words[1], "usb") == 0, usb = strcmp(words[2], "usb") == 0;
+  int from_fire = strcmp(words[1], "fw") == 0, fire = strcmp(words[2], "fw") == 0;
   struct state state = {.cable = packets ? 0x10 : 0};
   void (*convert)(struct state *, const byte *, size_t) =
-      packets ? (usb ? packets_to_usb : packets_to_din) : (usb ? to_usb : to_din);
+      from_fire ? fire_to_din
+      : fire    ? to_fire
+      : packets ? (usb ? packets_to_usb : packets_to_din)
+                : (usb ? to_usb : to_din);
   byte piece[512];
   for (;;) {
     ssize_t got = read(0, piece, sizeof piece);
@@ -151,5 +236,5 @@ int main(int count, char **words) {
   }
   if (usb) abort_usb(&state);
   if (!write_out(&state)) return 4;
-  return state.place ? 5 : 0;
+  return state.place || state.part != HIGH ? 5 : 0;
 }

@@ -93,7 +93,7 @@ fn the_last_port_written_and_read_back(rt: HostRuntime) {
     let mut out = Buf::new();
     let mut text = Text::new();
     assert!(rt; writer.longest() == 3);
-    assert!(rt; writer.room() == 798);
+    assert!(rt; writer.room() == 798 && writer.short_room() == 798 && writer.port() == 63);
     writer.put(Ev::Open, &mut out);
     assert!(rt; writer.in_sysex());
     read_port(&mut reader, out.as_slice(), &mut text);

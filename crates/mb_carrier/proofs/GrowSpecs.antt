@@ -12,13 +12,16 @@ use Rattle.mb_ports.specs.OnePort.{HoldsOne}
 use Rattle.mb_ports.specs.Machine.{Machine}
 use Rattle.mb_ports.proofs.ReaderLaw.{whole, start-holds}
 use Rattle.mb_usb.specs.Cables.{usb, only_cable, cable_so_far}
-use Rattle.mb_usb.proofs.CablesLaw.{only_low, only_law}
+use Rattle.mb_usb.proofs.CablesLaw as usb_law
+use Rattle.mb_fire.specs.Ports.{fire, only_port, port_so_far}
+use Rattle.mb_fire.proofs.PortsLaw as fire_law
 use Rattle.mb_carrier.specs.Carrier.{known, puts_known, put_in}
 use Rattle.mb_carrier.specs.Laws.{GrowLaws}
 use Rattle.mb_carrier.specs.DinLaws as din
 use Rattle.mb_carrier.specs.UsbLaws as usb_laws
+use Rattle.mb_carrier.specs.FireLaws as fire_laws
 use Rattle.mb_carrier.specs.declared.spec.Spec.{Spec}
-use Rattle.mb_carrier.specs.declared.spec.Spec.TheVariants.{Din, Usb}
+use Rattle.mb_carrier.specs.declared.spec.Spec.TheVariants.{Din, Usb, Fire}
 use Rattle.mb_carrier.proofs.PlaceLemmas.{StandsIn, In, line-in, one-in}
 
 one-same : (m n : ℕ → ℕ) (count at : ℕ) (t : Told) → ((i : ℕ) → i < count → m i ≡ n i) → StandsIn 0 count at t →
@@ -38,6 +41,12 @@ usb-same cable m n count [] f h = refl
 usb-same cable m n count (k ∷ ks) f h = ap₂ (λ a b. a ++ b) (one-same m n count k.at k.told f h.0)
     (usb-same cable m n count ks f h.1)
 
+fire-same : (port : ℕ) (m n : ℕ → ℕ) (count : ℕ) (ks : List Known) → ((i : ℕ) → i < count → m i ≡ n i) →
+    Each (In 0 count) ks → puts_known (Fire port) m ks ≡ puts_known (Fire port) n ks
+fire-same port m n count [] f h = refl
+fire-same port m n count (k ∷ ks) f h = ap₂ (λ a b. a ++ b) (one-same m n count k.at k.told f h.0)
+    (fire-same port m n count ks f h.1)
+
 din-place : (bytes : List ℕ) → Each (In 0 (length bytes)) (so_far (din_payload bytes))
 din-place bytes = line-in [] bytes [] [] (so_far (din_payload bytes)) [] refl
     (sym (append-nil (so_far (din_payload bytes))))
@@ -45,14 +54,28 @@ din-place bytes = line-in [] bytes [] [] (so_far (din_payload bytes)) [] refl
 usb-place : (cable : ℕ) (bytes : List ℕ) → Each (In 0 (length bytes)) (cable_so_far cable bytes)
 usb-place cable bytes =
     let m = usb (only_cable cable) in
-    one-in m (only_low cable) (whole 0 m.start [] (λ _. din_state.fresh)) [] bytes [] (cable_so_far cable bytes) []
+    one-in m (usb_law.only_low cable) (whole 0 m.start [] (λ _. din_state.fresh)) [] bytes []
+    (cable_so_far cable bytes) []
     (record {
       with_port = [];
       holds = start-holds m 1 (λ _. din_state.fresh) (omega arith)
           (λ c h. new_stands din_state.fresh refl);
       told_is = refl;
     })
-    (only_law cable bytes ∙ sym (append-nil (cable_so_far cable bytes)))
+    (usb_law.only_law cable bytes ∙ sym (append-nil (cable_so_far cable bytes)))
+
+fire-place : (port : ℕ) (bytes : List ℕ) → Each (In 0 (length bytes)) (port_so_far port bytes)
+fire-place port bytes =
+    let m = fire (only_port port) in
+    one-in m (fire_law.only_low port) (whole 0 m.start [] (λ _. din_state.fresh)) [] bytes []
+    (port_so_far port bytes) []
+    (record {
+      with_port = [];
+      holds = start-holds m 1 (λ _. din_state.fresh) (omega arith)
+          (λ c h. new_stands din_state.fresh refl);
+      told_is = refl;
+    })
+    (fire_law.only_law port bytes ∙ sym (append-nil (port_so_far port bytes)))
 
 pub grows : (s : Spec) → GrowLaws s
 grows Din = record {
@@ -68,6 +91,14 @@ grows (Usb cable) = record {
   closes = usb_laws.live-closes cable;
   known_stays = usb_laws.known-stays cable;
   same = λ m n bytes f. usb-same cable m n (length bytes) (cable_so_far cable bytes) f (usb-place cable bytes);
+  nothing = refl;
+  nothing_known = refl;
+}
+grows (Fire port) = record {
+  stays = λ puts more suits. fire_laws.live-stays port puts more;
+  closes = λ puts suits. fire_laws.live-closes port puts;
+  known_stays = fire_laws.known-stays port;
+  same = λ m n bytes f. fire-same port m n (length bytes) (port_so_far port bytes) f (fire-place port bytes);
   nothing = refl;
   nothing_known = refl;
 }

@@ -1,6 +1,7 @@
 pub mod CableLemmas
 pub mod ConversionLemmas
 pub mod FillLemmas
+pub mod FireLemmas
 pub mod Fronts
 pub mod GrowLemmas
 pub mod GrowSpecs

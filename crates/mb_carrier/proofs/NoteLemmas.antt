@@ -9,13 +9,14 @@ use Rattle.mb_stream.specs.Reading as stream
 use Rattle.mb_carrier.specs.Carrier.{known, payload_of, end_told, reading_of, notes_of}
 use Rattle.mb_carrier.specs.Listing.{told_of, has_notes}
 use Rattle.mb_carrier.specs.declared.spec.Spec.{Spec}
-use Rattle.mb_carrier.specs.declared.spec.Spec.TheVariants.{Din, Usb}
+use Rattle.mb_carrier.specs.declared.spec.Spec.TheVariants.{Din, Usb, Fire}
 
 -- a reading is what is known and what its end tells, at some moment
 read-ends : (s : Spec) (bytes : List ℕ) → (m : ℕ) ×
     (reading_of s bytes ≡ map part_of (known s bytes) ++ map (part_at m) (end_told s bytes))
 read-ends Din bytes = (last_moment 0 (payload_of Din bytes), refl)
 read-ends (Usb cable) bytes = (0, refl)
+read-ends (Fire port) bytes = (0, refl)
 
 abbrev remarks : List Told → List Remark
 remarks ts = flat_map note_in ts

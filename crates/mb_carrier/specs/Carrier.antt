@@ -12,6 +12,8 @@
 --   written s puts         what marks with their moments, and flushes, are written as
 --   live s puts            the same without what the writer's finish adds
 --   room_of, longest_of    the free bytes that a writer asks for, and the longest run of SysEx data that it takes
+--   hop_room_of,           the same of a hop's calls, which may hand over less at once, so that a buffer is nearly full
+--   hop_longest_of         before it is handed on
 use Rattle.std.specs.Prelude.{ℕ, zero, suc, Bool, true, List, [], ◌∷◌, ◌++◌, map, flat_map, length}
 use Rattle.mb_message.specs.Signs.{Sign}
 use Rattle.mb_stream.specs.Payload.{Entry}
@@ -26,16 +28,23 @@ use Rattle.mb_din.specs.Recording.{din_payload, din_reading}
 use Rattle.mb_din.specs.Written.{din_written}
 use Rattle.mb_usb.specs.Reading.{cable_payload, usb_told, usb_reading, usb_whole}
 use Rattle.mb_usb.specs.Written.{usb_written, usb_live}
+use Rattle.mb_fire.specs.Packets.{fire_whole}
+use Rattle.mb_fire.specs.Reading.{fire_payload, fire_reading}
+use Rattle.mb_fire.specs.Ports.{port_so_far}
+use Rattle.mb_fire.specs.Written.{fire_written}
+use Rattle.mb_fire.specs.PortWriter as fire
 use Rattle.mb_carrier.specs.declared.spec.Spec.{Spec}
-use Rattle.mb_carrier.specs.declared.spec.Spec.TheVariants.{Din, Usb}
+use Rattle.mb_carrier.specs.declared.spec.Spec.TheVariants.{Din, Usb, Fire}
 
 abbrev pub payload_of : Spec → List ℕ → List Entry
 payload_of Din bytes = din_payload bytes
 payload_of (Usb cable) bytes = cable_payload cable bytes
+payload_of (Fire port) bytes = fire_payload port bytes
 
 abbrev pub known : Spec → List ℕ → List Known
 known Din bytes = stream.so_far (din_payload bytes)
 known (Usb cable) bytes = in_order (λ k. k) (usb_told cable bytes)
+known (Fire port) bytes = port_so_far port bytes
 
 abbrev pub end_told : Spec → List ℕ → List Told
 end_told s bytes = at_end (last_of (payload_of s bytes))
@@ -47,6 +56,7 @@ known_signs ks = signs_of (map part_of ks)
 abbrev pub reading_of : Spec → List ℕ → List Part
 reading_of Din bytes = din_reading bytes
 reading_of (Usb cable) bytes = usb_reading cable bytes
+reading_of (Fire port) bytes = fire_reading port bytes
 
 abbrev pub marks_of : Spec → List ℕ → List Sign
 marks_of s bytes = signs_of (reading_of s bytes)
@@ -64,11 +74,13 @@ den s bytes = denotation (marks_of s bytes)
 abbrev pub whole : Spec → List ℕ → Bool
 whole Din bytes = true
 whole (Usb cable) bytes = usb_whole bytes
+whole (Fire port) bytes = fire_whole bytes
 
 -- Where a carrier has no clock, what becomes known has the moment of the byte at which it does.
 abbrev pub moment_of : Spec → (moments : ℕ → ℕ) → Known → ℕ
 moment_of Din moments k = moments k.at
 moment_of (Usb cable) moments k = moments k.at
+moment_of (Fire port) moments k = moments k.at
 
 abbrev pub put_in : (moment : ℕ) → Told → List Put
 put_in moment (Marks m) = At moment m ∷ []
@@ -90,6 +102,7 @@ last_byte_moment moments (suc n) = moments n
 abbrev pub end_moment : Spec → (moments : ℕ → ℕ) → List ℕ → ℕ
 end_moment Din moments bytes = last_byte_moment moments (length bytes)
 end_moment (Usb cable) moments bytes = last_byte_moment moments (length bytes)
+end_moment (Fire port) moments bytes = last_byte_moment moments (length bytes)
 
 -- the marks of a reading, with their moments
 abbrev pub puts_of : Spec → (moments : ℕ → ℕ) → List ℕ → List Put
@@ -99,16 +112,30 @@ puts_of s moments bytes = puts_so_far s moments bytes
 abbrev pub written : Spec → List Put → List ℕ
 written Din puts = din_written (signs_in puts)
 written (Usb cable) puts = usb_written cable (signs_in puts)
+written (Fire port) puts = fire_written port (signs_in puts)
 
--- a byte line's writer holds nothing back
+-- the writers of a byte line and of a FireWire port hold nothing back
 abbrev pub live : Spec → List Put → List ℕ
 live Din puts = din_written (signs_in puts)
 live (Usb cable) puts = usb_live cable (signs_in puts)
+live (Fire port) puts = fire_written port (signs_in puts)
 
 abbrev pub room_of : Spec → ℕ
 room_of Din = 16
 room_of (Usb cable) = 24
+room_of (Fire port) = fire.room port
 
 abbrev pub longest_of : Spec → ℕ
 longest_of Din = 16
 longest_of (Usb cable) = 16
+longest_of (Fire port) = fire.longest port
+
+abbrev pub hop_room_of : Spec → ℕ
+hop_room_of Din = 16
+hop_room_of (Usb cable) = 24
+hop_room_of (Fire port) = fire.short_room port
+
+abbrev pub hop_longest_of : Spec → ℕ
+hop_longest_of Din = 16
+hop_longest_of (Usb cable) = 16
+hop_longest_of (Fire port) = 3

@@ -2,6 +2,7 @@ pub mod Carrier
 pub mod Conversion
 pub mod DinLaws
 pub mod Fill
+pub mod FireLaws
 pub mod Hop
 pub mod Laws
 pub mod Line

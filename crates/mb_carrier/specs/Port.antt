@@ -4,11 +4,14 @@ use Rattle.mb_stream.specs.Told.{Known}
 use Rattle.mb_stream.specs.Puts.{Put, signs_in}
 use Rattle.mb_din.specs.Writer as din
 use Rattle.mb_usb.specs.Writer as usb
+use Rattle.mb_fire.specs.PortWriter as fire
 use Rattle.mb_stream.specs.ReaderLaw.{StatusNext}
 use Rattle.mb_din.specs.State as din_state
 use Rattle.mb_din.specs.State.{Rests}
 use Rattle.mb_usb.specs.Cables.{CableStands}
 use Rattle.mb_usb.specs.State as usb_state
+use Rattle.mb_fire.specs.Ports.{PortStands}
+use Rattle.mb_fire.specs.State as fire_state
 use Rattle.mb_carrier.specs.Line.{LineStands}
 use Rattle.mb_carrier.specs.declared.spec.Spec.{Spec}
 use Rattle.mb_carrier.specs.declared.spec.Spec.TheVariants as spec
@@ -22,6 +25,7 @@ use Rattle.mb_carrier.specs.declared.reader.PortReader.{PortReader}
 abbrev pub writer_spec_by : WriterOf → Spec
 writer_spec_by (writer.Din w) = spec.Din
 writer_spec_by (writer.Usb w) = spec.Usb w.cable
+writer_spec_by (writer.Fire w) = spec.Fire w.port
 
 abbrev pub writer_spec : PortWriter → Spec
 writer_spec w = writer_spec_by w.carrier
@@ -29,10 +33,12 @@ writer_spec w = writer_spec_by w.carrier
 abbrev pub in_sysex_by : WriterOf → Bool
 in_sysex_by (writer.Din w) = w.in_sysex
 in_sysex_by (writer.Usb w) = w.in_sysex
+in_sysex_by (writer.Fire w) = w.in_sysex
 
 abbrev pub WriterStandsBy : WriterOf → List Put → Type 0
 WriterStandsBy (writer.Din w) puts = din.Stands w (signs_in puts) × (w.running ≡ true)
 WriterStandsBy (writer.Usb w) puts = usb.Stands w (signs_in puts)
+WriterStandsBy (writer.Fire w) puts = fire.Stands w (signs_in puts)
 
 -- it was given these marks at their moments, and these flushes
 abbrev pub WriterStands : PortWriter → List Put → Type 0
@@ -45,6 +51,7 @@ writer_in_sysex w = in_sysex_by w.carrier
 abbrev pub reader_spec_by : ReaderOf → Spec
 reader_spec_by (reader.Din r) = spec.Din
 reader_spec_by (reader.Usb r) = spec.Usb r.cable
+reader_spec_by (reader.Fire r) = spec.Fire r.port
 
 abbrev pub reader_spec : PortReader → Spec
 reader_spec r = reader_spec_by r.carrier
@@ -52,6 +59,7 @@ reader_spec r = reader_spec_by r.carrier
 abbrev pub ReaderStandsBy : ReaderOf → List ℕ → List Known → Type 0
 ReaderStandsBy (reader.Din r) bytes told = LineStands r bytes told
 ReaderStandsBy (reader.Usb r) bytes told = CableStands r bytes told
+ReaderStandsBy (reader.Fire r) bytes told = PortStands r bytes told
 
 abbrev pub ReaderStands : PortReader → List ℕ → List Known → Type 0
 ReaderStands r bytes told = ReaderStandsBy r.carrier bytes told
@@ -64,6 +72,7 @@ ReadsAlike was now = now.carrier ≡ was.carrier
 abbrev pub ReaderRestsBy : ReaderOf → Type 0
 ReaderRestsBy (reader.Din r) = Rests r
 ReaderRestsBy (reader.Usb r) = Rests r.reader
+ReaderRestsBy (reader.Fire r) = Rests r.reader
 
 abbrev pub ReaderRests : PortReader → Type 0
 ReaderRests r = ReaderRestsBy r.carrier
@@ -72,6 +81,7 @@ ReaderRests r = ReaderRestsBy r.carrier
 abbrev pub BrokenNextBy : ReaderOf → List ℕ → Type 0
 BrokenNextBy (reader.Din r) input = StatusNext input
 BrokenNextBy (reader.Usb r) input = StatusNext input
+BrokenNextBy (reader.Fire r) input = StatusNext input
 
 abbrev pub BrokenNext : PortReader → List ℕ → Type 0
 BrokenNext r input = BrokenNextBy r.carrier input
@@ -80,6 +90,7 @@ BrokenNext r input = BrokenNextBy r.carrier input
 abbrev pub reader_offset_by : ReaderOf → ℕ
 reader_offset_by (reader.Din r) = r.offset
 reader_offset_by (reader.Usb r) = usb_state.cable_offset r
+reader_offset_by (reader.Fire r) = fire_state.port_offset r
 
 abbrev pub reader_offset : PortReader → ℕ
 reader_offset r = reader_offset_by r.carrier
@@ -88,6 +99,7 @@ reader_offset r = reader_offset_by r.carrier
 abbrev pub reader_owed_by : ReaderOf → ℕ
 reader_owed_by (reader.Din r) = din_state.owed r
 reader_owed_by (reader.Usb r) = usb_state.cable_owed r
+reader_owed_by (reader.Fire r) = fire_state.port_owed r
 
 abbrev pub reader_owed : PortReader → ℕ
 reader_owed r = reader_owed_by r.carrier
@@ -96,6 +108,7 @@ reader_owed r = reader_owed_by r.carrier
 abbrev pub reader_moment_by : ReaderOf → (moment_set : ℕ) → ℕ
 reader_moment_by (reader.Din r) moment_set = moment_set
 reader_moment_by (reader.Usb r) moment_set = moment_set
+reader_moment_by (reader.Fire r) moment_set = moment_set
 
 abbrev pub reader_moment : PortReader → (moment_set : ℕ) → ℕ
 reader_moment r moment_set = reader_moment_by r.carrier moment_set
@@ -108,6 +121,7 @@ moment_set r = r.moment
 abbrev pub beside_by : ReaderOf → List ℕ → List ℕ
 beside_by (reader.Din r) input = input
 beside_by (reader.Usb r) input = take (usb_state.cable_to_come r) input
+beside_by (reader.Fire r) input = take (fire_state.port_to_come r) input
 
 abbrev pub beside : PortReader → List ℕ → List ℕ
 beside r input = beside_by r.carrier input
@@ -116,6 +130,7 @@ beside r input = beside_by r.carrier input
 abbrev pub is_partial_by : ReaderOf → Bool
 is_partial_by (reader.Din r) = false
 is_partial_by (reader.Usb r) = not (usb_state.cable_taken r == 0)
+is_partial_by (reader.Fire r) = fire_state.port_partial r
 
 abbrev pub is_partial : PortReader → Bool
 is_partial r = is_partial_by r.carrier

@@ -13,7 +13,7 @@ ghost use Rattle.mb_stream.specs.ReaderLaw.{answer};
 ghost use Rattle.mb_message.specs.Front.{IsFront};
 ghost use Rattle.mb_stream.specs.Reading.{told_signs};
 ghost use Rattle.mb_carrier.specs.Carrier.{known, end_told, marks_of, marks_so_far, last_byte_moment, end_moment};
-ghost use Rattle.mb_carrier.specs.Carrier.{room_of, longest_of, live, written};
+ghost use Rattle.mb_carrier.specs.Carrier.{hop_room_of, hop_longest_of, live, written};
 ghost use Rattle.mb_carrier.specs.Hop.{ReaderGoes};
 ghost use Rattle.mb_carrier.specs.declared.spec.Spec.{Spec};
 
@@ -113,24 +113,24 @@ pub trait EventWriter {
     /// It was given these marks at their moments, and these flushes.
     ghost stands: { Self → List Put → Type 0 };
 
-    /// The free bytes that each of its calls asks for.
+    /// The free bytes that each of its calls asks for, where a run is no longer than `longest`.
     fn room(&self) -> usize
-        ensures room { result ≡ room_of (spec self.now) }
+        ensures room { result ≡ hop_room_of (spec self.now) }
         ensures fits { result ≤ 1024 };
 
     /// How many bytes the longest run has that `put` takes.
     fn longest(&self) -> usize
-        ensures longest { result ≡ longest_of (spec self.now) }
+        ensures longest { result ≡ hop_longest_of (spec self.now) }
         ensures some { 0 < result };
 
     /// Appends what an event at its moment is written as, or as much of it as is known now.
     fn put(&mut self, moment: u64, ev: Ev<'_>, out: &mut Buf)
-        requires room { array_vec_len out.old + room_of (spec self.old) ≤ 1024 }
+        requires room { array_vec_len out.old + hop_room_of (spec self.old) ≤ 1024 }
         requires suits { suits_event (in_sysex self.old) ev ≡ true }
-        requires run { IsRunOf (longest_of (spec self.old)) ev }
+        requires run { IsRunOf (hop_longest_of (spec self.old)) ev }
         ensures spec { spec self.new ≡ spec self.old }
         ensures in_sysex { in_sysex self.new ≡ open_behind (in_sysex self.old) ev.entry }
-        ensures len { array_vec_len out.new ≤ array_vec_len out.old + room_of (spec self.old) }
+        ensures len { array_vec_len out.new ≤ array_vec_len out.old + hop_room_of (spec self.old) }
         ensures stands { (puts : List Put) → stands self.old puts →
             stands self.new (puts ++ puts_at moment (signs_of_event ev.entry)) }
         ensures written { (puts : List Put) → stands self.old puts → Appended out.old.items out.new.items
@@ -138,20 +138,20 @@ pub trait EventWriter {
 
     /// Ends the packet under way, if there is one.
     fn flush(&mut self, out: &mut Buf)
-        requires room { array_vec_len out.old + room_of (spec self.old) ≤ 1024 }
+        requires room { array_vec_len out.old + hop_room_of (spec self.old) ≤ 1024 }
         ensures spec { spec self.new ≡ spec self.old }
         ensures in_sysex { in_sysex self.new ≡ in_sysex self.old }
-        ensures len { array_vec_len out.new ≤ array_vec_len out.old + room_of (spec self.old) }
+        ensures len { array_vec_len out.new ≤ array_vec_len out.old + hop_room_of (spec self.old) }
         ensures stands { (puts : List Put) → stands self.old puts → stands self.new (puts ++ Flush ∷ []) }
         ensures written { (puts : List Put) → stands self.old puts → Appended out.old.items out.new.items
             (live (spec self.old) puts) (live (spec self.old) (puts ++ Flush ∷ [])) };
 
     /// Appends what the end of the list adds. Afterwards the writer is as new.
     fn finish(&mut self, out: &mut Buf)
-        requires room { array_vec_len out.old + room_of (spec self.old) ≤ 1024 }
+        requires room { array_vec_len out.old + hop_room_of (spec self.old) ≤ 1024 }
         ensures spec { spec self.new ≡ spec self.old }
         ensures in_sysex { in_sysex self.new ≡ false }
-        ensures len { array_vec_len out.new ≤ array_vec_len out.old + room_of (spec self.old) }
+        ensures len { array_vec_len out.new ≤ array_vec_len out.old + hop_room_of (spec self.old) }
         ensures stands { (puts : List Put) → stands self.old puts → stands self.new [] }
         ensures written { (puts : List Put) → stands self.old puts → Appended out.old.items out.new.items
             (live (spec self.old) puts) (written (spec self.old) puts) };

@@ -6,7 +6,7 @@ ghost use Rattle.std.specs.Prelude.{IfSome, IfNone};
 ghost use Rattle.arrayvec.specs.ArrayVec.{array_vec_len};
 ghost use Rattle.mb_message.specs.Signs.{ByteSign, suits_event, signs_of_event, IsRunOf, open_behind};
 ghost use Rattle.mb_stream.specs.Puts.{Put, puts_at};
-ghost use Rattle.mb_carrier.specs.Carrier.{live, room_of, longest_of};
+ghost use Rattle.mb_carrier.specs.Carrier.{live, hop_room_of, hop_longest_of};
 ghost use Rattle.mb_carrier.specs.Hop.{seen_signs, MayCome};
 ghost use Rattle.mb_carrier.specs.Fill.{PutSome, Flows, Through, OnItsWay, More, unread, work, HasMoment};
 
@@ -80,6 +80,9 @@ fn fill_buffer<'a, R: EventReader, W: EventWriter>(
     ensures moment { HasMoment piece.entry.moment result }
     ensures progress { work (R.owed reader.new) result < work (R.owed reader.old) (Some piece.entry) }
 {
+    // An empty buffer has room for any event.
+    let room = writer.room();
+    prove!(room <= held.capacity());
     let at = reader.moment(piece.moment);
     let mut run: &'a [u8] = &[];
     let mut rest = piece.rest;
@@ -112,7 +115,7 @@ fn read_on<'a, R: EventReader, W: EventWriter>(
     held: &mut Buf,
 ) -> Option<Ev<'a>>
     requires early { R.offset reader.old + length rest.old.now ≤ 2 ^ 51 + 2 ^ 14 }
-    requires room { array_vec_len held.old + room_of (W.spec writer.old) ≤ 1024 }
+    requires room { array_vec_len held.old + hop_room_of (W.spec writer.old) ≤ 1024 }
     requires at { at ≡ R.moment reader.old moment }
     requires flows { (moments : ℕ → ℕ) × (bytes : List ℕ) × (puts : List Put) × (base : List ℕ) ×
         Flows (R.spec reader.old) (W.spec writer.old) moments moment (R.stands reader.old) (W.stands writer.old)
@@ -181,14 +184,14 @@ fn put_seen<'a, W: EventWriter>(
     run: &mut &'a [u8],
     held: &mut Buf,
 ) -> bool
-    requires room { array_vec_len held.old + room_of (W.spec writer.old) ≤ 1024 }
+    requires room { array_vec_len held.old + hop_room_of (W.spec writer.old) ≤ 1024 }
     requires run { run.old.now ≡ [] }
     requires suits { MayCome (W.in_sysex writer.old) (seen_signs seen) }
     ensures spec { W.spec writer.new ≡ W.spec writer.old }
     ensures put { PutSome (live (W.spec writer.old)) (W.stands writer.old) (W.stands writer.new)
         at (seen_signs seen.entry) run.new.now held.old.items held.new.items }
     ensures empty { result ≡ true → run.new.now ≡ [] }
-    ensures room { result ≡ true → array_vec_len held.new + room_of (W.spec writer.old) ≤ 1024 }
+    ensures room { result ≡ true → array_vec_len held.new + hop_room_of (W.spec writer.old) ≤ 1024 }
     ensures short { length run.new.now < 2 ^ 64 }
 {
     match seen {
@@ -206,14 +209,14 @@ fn put_event<'a, W: EventWriter>(
     run: &mut &'a [u8],
     held: &mut Buf,
 ) -> bool
-    requires room { array_vec_len held.old + room_of (W.spec writer.old) ≤ 1024 }
+    requires room { array_vec_len held.old + hop_room_of (W.spec writer.old) ≤ 1024 }
     requires run { run.old.now ≡ [] }
     requires suits { MayCome (W.in_sysex writer.old) (signs_of_event ev) }
     ensures spec { W.spec writer.new ≡ W.spec writer.old }
     ensures put { PutSome (live (W.spec writer.old)) (W.stands writer.old) (W.stands writer.new)
         at (signs_of_event ev.entry) run.new.now held.old.items held.new.items }
     ensures empty { result ≡ true → run.new.now ≡ [] }
-    ensures room { result ≡ true → array_vec_len held.new + room_of (W.spec writer.old) ≤ 1024 }
+    ensures room { result ≡ true → array_vec_len held.new + hop_room_of (W.spec writer.old) ≤ 1024 }
     ensures some { result ≡ false → length run.new.now < length (signs_of_event ev.entry) }
     ensures short { length run.new.now < 2 ^ 64 }
 {
@@ -229,13 +232,13 @@ fn put_event<'a, W: EventWriter>(
 /// Writes a run of any length in pieces that the writer takes, as far as there is room.
 #[inline(always)]
 fn put_run<W: EventWriter>(writer: &mut W, at: u64, run: &mut &[u8], held: &mut Buf) -> bool
-    requires room { array_vec_len held.old + room_of (W.spec writer.old) ≤ 1024 }
+    requires room { array_vec_len held.old + hop_room_of (W.spec writer.old) ≤ 1024 }
     requires suits { MayCome (W.in_sysex writer.old) (map ByteSign run.old.now) }
     ensures spec { W.spec writer.new ≡ W.spec writer.old }
     ensures put { PutSome (live (W.spec writer.old)) (W.stands writer.old) (W.stands writer.new)
         at (map ByteSign run.old.now) run.new.now held.old.items held.new.items }
     ensures empty { result ≡ true → run.new.now ≡ [] }
-    ensures room { result ≡ true → array_vec_len held.new + room_of (W.spec writer.old) ≤ 1024 }
+    ensures room { result ≡ true → array_vec_len held.new + hop_room_of (W.spec writer.old) ≤ 1024 }
     ensures some { result ≡ false → length run.new.now < length run.old.now }
     ensures short { length run.new.now < 2 ^ 64 }
 {
@@ -252,14 +255,14 @@ fn put_run<W: EventWriter>(writer: &mut W, at: u64, run: &mut &[u8], held: &mut 
 /// Writes an event, and answers whether there is room for one more.
 #[inline(always)]
 fn put_one<W: EventWriter>(writer: &mut W, at: u64, ev: Ev<'_>, held: &mut Buf) -> bool
-    requires room { array_vec_len held.old + room_of (W.spec writer.old) ≤ 1024 }
+    requires room { array_vec_len held.old + hop_room_of (W.spec writer.old) ≤ 1024 }
     requires suits { suits_event (W.in_sysex writer.old) ev ≡ true }
-    requires run { IsRunOf (longest_of (W.spec writer.old)) ev }
+    requires run { IsRunOf (hop_longest_of (W.spec writer.old)) ev }
     ensures spec { W.spec writer.new ≡ W.spec writer.old }
     ensures in_sysex { W.in_sysex writer.new ≡ open_behind (W.in_sysex writer.old) ev.entry }
     ensures put { PutSome (live (W.spec writer.old)) (W.stands writer.old) (W.stands writer.new)
         at (signs_of_event ev.entry) [] held.old.items held.new.items }
-    ensures room { result ≡ true → array_vec_len held.new + room_of (W.spec writer.old) ≤ 1024 }
+    ensures room { result ≡ true → array_vec_len held.new + hop_room_of (W.spec writer.old) ≤ 1024 }
 {
     writer.put(at, ev, held);
     writer.room() <= held.capacity() - held.len()

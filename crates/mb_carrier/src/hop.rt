@@ -45,6 +45,7 @@ pub fn fill_hop<'a>(
     match &mut reader.carrier {
         ReaderOf::Din(reader) => fill_from(reader, writer, apart, piece, held),
         ReaderOf::Usb(reader) => fill_from(reader, writer, apart, piece, held),
+        ReaderOf::Fire(reader) => fill_from(reader, writer, apart, piece, held),
     }
 }
 
@@ -77,5 +78,6 @@ fn fill_from<'a, R: EventReader>(
     match &mut writer.carrier {
         WriterOf::Din(writer) => fill_pair(reader, writer, apart, piece, held),
         WriterOf::Usb(writer) => fill_pair(reader, writer, apart, piece, held),
+        WriterOf::Fire(writer) => fill_pair(reader, writer, apart, piece, held),
     }
 }

@@ -4,6 +4,7 @@
 mod din;
 mod events;
 mod fill;
+mod fire;
 mod hop;
 pub mod laws;
 mod list;

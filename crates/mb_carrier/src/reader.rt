@@ -18,6 +18,7 @@ ghost use Rattle.mb_carrier.specs.Word.{IsSpec};
 
 use crate::{EventReader, PortStep, Spec};
 use mb_din::DinReader;
+use mb_fire::FirePortReader;
 use mb_message::Seen;
 use mb_usb::CableReader;
 
@@ -26,6 +27,7 @@ use mb_usb::CableReader;
 pub(crate) enum ReaderOf {
     Din(DinReader),
     Usb(CableReader),
+    Fire(FirePortReader),
 }
 
 /// A reader of one port: its marks, its notes, and the notes on all packets. It keeps no more than its carrier's reader
@@ -48,6 +50,7 @@ impl PortReader {
         let carrier = match spec {
             Spec::Din => ReaderOf::Din(DinReader::new()),
             Spec::Usb(cable) => ReaderOf::Usb(CableReader::new(cable)),
+            Spec::Fire(port) => ReaderOf::Fire(FirePortReader::new(port)),
         };
         PortReader { carrier, moment: 0 }
     }
@@ -138,6 +141,7 @@ impl PortReader {
         match &self.carrier {
             ReaderOf::Din(_) => false,
             ReaderOf::Usb(reader) => reader.partial() != 0,
+            ReaderOf::Fire(reader) => reader.partial(),
         }
     }
 }
@@ -233,6 +237,7 @@ fn next_seen<'a>(carrier: &mut ReaderOf, input: &mut &'a [u8]) -> Option<Seen<'a
     match carrier {
         ReaderOf::Din(reader) => EventReader::next(reader, input),
         ReaderOf::Usb(reader) => EventReader::next(reader, input),
+        ReaderOf::Fire(reader) => EventReader::next(reader, input),
     }
 }
 
@@ -253,6 +258,7 @@ fn last_seen(carrier: &mut ReaderOf) -> Option<Seen<'static>>
     match carrier {
         ReaderOf::Din(reader) => EventReader::finish(reader),
         ReaderOf::Usb(reader) => EventReader::finish(reader),
+        ReaderOf::Fire(reader) => EventReader::finish(reader),
     }
 }
 
@@ -263,5 +269,6 @@ fn moment_by(carrier: &ReaderOf, moment_set: u64) -> u64
     match carrier {
         ReaderOf::Din(reader) => EventReader::moment(reader, moment_set),
         ReaderOf::Usb(reader) => EventReader::moment(reader, moment_set),
+        ReaderOf::Fire(reader) => EventReader::moment(reader, moment_set),
     }
 }

@@ -35,5 +35,9 @@ fn put_word(spec: Spec, out: &mut Line)
             put_text("usb:", out);
             put_number(u64::from(cable), out);
         }
+        Spec::Fire(port) => {
+            put_text("fw:", out);
+            put_number(u64::from(port), out);
+        }
     }
 }

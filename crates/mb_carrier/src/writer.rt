@@ -9,8 +9,10 @@ ghost use Rattle.mb_carrier.specs.Carrier.{live, written, room_of, longest_of};
 ghost use Rattle.mb_carrier.specs.Port.{writer_spec, writer_in_sysex, WriterStands};
 ghost use Rattle.mb_carrier.specs.Word.{IsSpec};
 
+use crate::fire::put_long;
 use crate::{EventWriter, Spec};
 use mb_din::DinWriter;
+use mb_fire::FirePortWriter;
 use mb_message::{Buf, Ev, Memory};
 use mb_usb::UsbWriter;
 use std::alloc::Global;
@@ -20,6 +22,7 @@ use std::alloc::Global;
 pub(crate) enum WriterOf {
     Din(DinWriter),
     Usb(UsbWriter),
+    Fire(FirePortWriter),
 }
 
 /// A writer of one port. It keeps no more than its carrier's writer does, and never grows.
@@ -40,6 +43,7 @@ impl PortWriter {
         let carrier = match spec {
             Spec::Din => WriterOf::Din(DinWriter::new(true)),
             Spec::Usb(cable) => WriterOf::Usb(UsbWriter::new(cable)),
+            Spec::Fire(port) => WriterOf::Fire(FirePortWriter::new(port)),
         };
         Ok(PortWriter { carrier })
     }
@@ -51,6 +55,7 @@ impl PortWriter {
         match &self.carrier {
             WriterOf::Din(writer) => writer.in_sysex(),
             WriterOf::Usb(writer) => writer.in_sysex(),
+            WriterOf::Fire(writer) => writer.in_sysex(),
         }
     }
 
@@ -62,6 +67,7 @@ impl PortWriter {
         match &self.carrier {
             WriterOf::Din(writer) => EventWriter::longest(writer),
             WriterOf::Usb(writer) => EventWriter::longest(writer),
+            WriterOf::Fire(writer) => FirePortWriter::longest(writer),
         }
     }
 
@@ -73,6 +79,7 @@ impl PortWriter {
         match &self.carrier {
             WriterOf::Din(writer) => EventWriter::room(writer),
             WriterOf::Usb(writer) => EventWriter::room(writer),
+            WriterOf::Fire(writer) => FirePortWriter::room(writer),
         }
     }
 
@@ -94,6 +101,7 @@ impl PortWriter {
         match &mut self.carrier {
             WriterOf::Din(writer) => EventWriter::put(writer, moment, ev, out),
             WriterOf::Usb(writer) => EventWriter::put(writer, moment, ev, out),
+            WriterOf::Fire(writer) => put_long(writer, moment, ev, out),
         }
     }
 
@@ -110,6 +118,7 @@ impl PortWriter {
         match &mut self.carrier {
             WriterOf::Din(writer) => EventWriter::flush(writer, out),
             WriterOf::Usb(writer) => EventWriter::flush(writer, out),
+            WriterOf::Fire(_) => {}
         }
     }
 
@@ -126,6 +135,7 @@ impl PortWriter {
         match &mut self.carrier {
             WriterOf::Din(writer) => EventWriter::finish(writer, out),
             WriterOf::Usb(writer) => EventWriter::finish(writer, out),
+            WriterOf::Fire(writer) => FirePortWriter::finish(writer, out),
         }
     }
 }

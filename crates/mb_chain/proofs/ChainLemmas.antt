@@ -8,13 +8,14 @@ use Rattle.mb_carrier.specs.Carrier.{known, puts_so_far, puts_known, live, writt
 use Rattle.mb_carrier.specs.Conversion.{none_set}
 use Rattle.mb_carrier.specs.Hop.{HaveMoment}
 use Rattle.mb_carrier.specs.Port.{reader_spec, reader_offset, ReaderStands, writer_spec, WriterStands}
+use Rattle.mb_carrier.specs.Word.{AreSpecs}
 use Rattle.mb_carrier.specs.declared.spec.Spec.{Spec}
 use Rattle.mb_carrier.proofs.GrowSpecs.{grows}
 use Rattle.mb_chain.specs.Row.{Link, link_of, links_from, hands_on, moments_on, writes_all, moments_all, live_over}
 use Rattle.mb_chain.specs.Row.{through_over, HopAt, HaveOne, RowStands, RowDone, IsEarly, EndsEarly, RowFed, RowHalted}
 use Rattle.mb_chain.specs.Row.{RowEnded, RowEndHalted}
 use Rattle.mb_chain.specs.Chain.{links_of, chain_links, is_broken, ChainStands, ChainEnded, ChainFed, ChainHalted}
-use Rattle.mb_chain.specs.Chain.{ChainFinished, ChainEndHalted}
+use Rattle.mb_chain.specs.Chain.{ChainFinished, ChainEndHalted, written_by}
 use Rattle.mb_chain.specs.declared.hop.Hop.{Hop}
 use Rattle.mb_chain.specs.declared.chain.Chain.{Chain}
 use Rattle.mb_chain.proofs.EarlyLemmas.{chain-early, chain-ends_early}
@@ -85,20 +86,37 @@ pub links-done : (hops : List Hop) (first : Spec) (rest : List Spec) (links : Li
 links-done hops first [] links none e = sym (append-nil (map link_of hops)) ∙ e
 links-done hops first (s ∷ ss) links none e = absurd (omega (arith, none))
 
+-- the specs that the hops write are those behind the first
+
+writes-are : (s : Spec) (ss : List Spec) → written_by (links_from s ss) ≡ ss
+writes-are s [] = refl
+writes-are s (t ∷ ss) = ap (λ (ts : List Spec). t ∷ ts) (writes-are t ss)
+
+pub links-specs : (specs : List Spec) (links : List Link) → links ≡ links_of specs → AreSpecs specs →
+    AreSpecs (written_by links)
+links-specs [] links same are = subst AreSpecs (sym (ap written_by same)) tt
+links-specs (s ∷ ss) links same are = subst AreSpecs (sym (ap written_by same ∙ writes-are s ss)) are.1
+
+specs-behind : (s : Spec) (ss : List Spec) (links : List Link) → links ≡ links_from s ss →
+    AreSpecs (written_by links) → AreSpecs ss
+specs-behind s ss links same are = subst AreSpecs (ap written_by same ∙ writes-are s ss) are
+
 -- all that crosses is short
 
-early-of : (specs : List Spec) (links : List Link) (bytes : List ℕ) → links ≡ links_of specs → length specs ≤ 10 →
-    length bytes ≤ 2 ^ 40 → IsEarly links none_set bytes
-early-of [] links bytes same few short = subst (λ (ls : List Link). IsEarly ls none_set bytes) (sym same)
+early-of : (specs : List Spec) (links : List Link) (bytes : List ℕ) → AreSpecs (written_by links) →
+    links ≡ links_of specs → length specs ≤ 10 → length bytes ≤ 2 ^ 40 → IsEarly links none_set bytes
+early-of [] links bytes are same few short = subst (λ (ls : List Link). IsEarly ls none_set bytes) (sym same)
     (omega (arith, short))
-early-of (s ∷ ss) links bytes same few short = subst (λ (ls : List Link). IsEarly ls none_set bytes) (sym same)
-    (chain-early s ss none_set bytes (omega (arith, few)) short)
+early-of (s ∷ ss) links bytes are same few short = subst (λ (ls : List Link). IsEarly ls none_set bytes) (sym same)
+    (chain-early s ss none_set bytes (specs-behind s ss links same are) (omega (arith, few)) short)
 
-ends_early-of : (specs : List Spec) (links : List Link) (bytes : List ℕ) → links ≡ links_of specs →
-    length specs ≤ 10 → length bytes ≤ 2 ^ 40 → EndsEarly links none_set bytes
-ends_early-of [] links bytes same few short = subst (λ (ls : List Link). EndsEarly ls none_set bytes) (sym same) tt
-ends_early-of (s ∷ ss) links bytes same few short = subst (λ (ls : List Link). EndsEarly ls none_set bytes) (sym same)
-    (chain-ends_early s ss none_set bytes (omega (arith, few)) short)
+ends_early-of : (specs : List Spec) (links : List Link) (bytes : List ℕ) → AreSpecs (written_by links) →
+    links ≡ links_of specs → length specs ≤ 10 → length bytes ≤ 2 ^ 40 → EndsEarly links none_set bytes
+ends_early-of [] links bytes are same few short =
+    subst (λ (ls : List Link). EndsEarly ls none_set bytes) (sym same) tt
+ends_early-of (s ∷ ss) links bytes are same few short =
+    subst (λ (ls : List Link). EndsEarly ls none_set bytes) (sym same)
+    (chain-ends_early s ss none_set bytes (specs-behind s ss links same are) (omega (arith, few)) short)
 
 -- a recording from outside has one moment
 
@@ -117,7 +135,7 @@ row-may chain hops input same w s = (
   w.0,
   subst (λ (hs : List Hop). RowStands hs none_set w.0) (sym same) (w.1).row,
   subst (λ (hs : List Hop). IsEarly (map link_of hs) none_set (w.0 ++ input)) (sym same)
-      (early-of s.0 (chain_links chain) (w.0 ++ input) s.1 s.2 w.2),
+      (early-of s.0 (chain_links chain) (w.0 ++ input) (w.1).are_specs s.1 s.2 w.2),
   one-moment (map link_of hops) (length w.0) (length input),
 )
 
@@ -130,15 +148,15 @@ row-may_end chain hops same w s = (
   w.0,
   subst (λ (hs : List Hop). RowStands hs none_set w.0) (sym same) (w.1).row,
   subst (λ (hs : List Hop). EndsEarly (map link_of hs) none_set w.0) (sym same)
-      (ends_early-of s.0 (chain_links chain) w.0 s.1 s.2 w.2),
+      (ends_early-of s.0 (chain_links chain) w.0 (w.1).are_specs s.1 s.2 w.2),
 )
 
 pub chain-fed : (chain now : Chain) (hops hops_now : List Hop) (piece : List ℕ) (took : List ℕ → Type 0) →
     hops ≡ chain.hops.items → hops_now ≡ now.hops.items →
-    now.fed ≡ chain.fed + length piece → is_broken now ≡ is_broken chain →
+    now.fed ≡ chain.fed + length piece → chain_links now ≡ chain_links chain → is_broken now ≡ is_broken chain →
     RowFed (map link_of hops) (RowStands hops) (RowStands hops_now) 0 piece took →
     ChainFed (chain_links chain) (ChainStands chain) (ChainStands now) piece took
-chain-fed chain now hops hops_now piece took same same_now more whole f0 =
+chain-fed chain now hops hops_now piece took same same_now more linked whole f0 =
     let f = subst (λ (hs : List Hop). RowFed (map link_of hs) (RowStands hs)
     (RowStands now.hops.items) 0 piece took) same
     (subst (λ (hs : List Hop). RowFed (map link_of hops) (RowStands hops) (RowStands hs) 0 piece took) same_now f0) in
@@ -148,6 +166,7 @@ chain-fed chain now hops hops_now piece took same same_now more whole f0 =
       stands = λ bytes h. record {
         row = f.stands none_set bytes h.row (one-moment (chain_links chain) (length bytes) (length piece));
         fed = more ∙ (ap (λ n. n + length piece) h.fed ∙ sym (length-append bytes piece));
+        are_specs = subst (λ (ls : List Link). AreSpecs (written_by ls)) (sym linked) h.are_specs;
         whole = whole ∙ h.whole;
       };
       beyond = λ bytes h. f.beyond none_set bytes h.row (one-moment (chain_links chain) (length bytes) (length piece));

@@ -11,6 +11,7 @@ use Rattle.mb_message.specs.Front.{IsFront}
 use Rattle.mb_stream.specs.Reading.{told_signs}
 use Rattle.mb_carrier.specs.Carrier.{known, end_told, marks_of, marks_so_far, puts_so_far, puts_of, known_signs, live}
 use Rattle.mb_carrier.specs.Carrier.{written}
+use Rattle.mb_carrier.specs.Word.{IsSpec, AreSpecs}
 use Rattle.mb_carrier.specs.declared.spec.Spec.{Spec}
 use Rattle.mb_carrier.proofs.ConversionLemmas.{laws, hop-in, hop-suits, hop-valid}
 use Rattle.mb_carrier.proofs.GrowSpecs.{grows}
@@ -53,52 +54,52 @@ known-front s xs ys f =
     let g = (reads s).stays xs f.0 in
     (known_signs g.0, ap (marks_so_far s) f.1 ∙ (ap known_signs g.1 ∙ known_signs-append (known s xs) g.0))
 
-live-short : (t : Spec) (ps : List Put) → suited (signs_in ps) ≡ true →
+live-short : (t : Spec) (ps : List Put) → IsSpec t → suited (signs_in ps) ≡ true →
     length (live t ps) ≤ 1024 * length (signs_in ps) + 1024
-live-short t ps suits = omega (
+live-short t ps is suits = omega (
   arith,
   front-length (live t ps) (written t ps) ((grows t).closes ps suits),
-  (laws t).size ps suits,
+  (laws t).size is ps suits,
 )
 
 -- what is known of what is written so far is at most one mark more
-live-one_more : (t : Spec) (ps : List Put) → suited (signs_in ps) ≡ true → AreValid (signs_in ps) →
+live-one_more : (t : Spec) (ps : List Put) → IsSpec t → suited (signs_in ps) ≡ true → AreValid (signs_in ps) →
     length (marks_so_far t (live t ps)) ≤ length (signs_in ps) + 1
-live-one_more t ps suits valid =
+live-one_more t ps is suits valid =
     omega (
       arith,
       front-length (marks_so_far t (live t ps)) (marks_so_far t (written t ps))
           (known-front t (live t ps) (written t ps) ((grows t).closes ps suits)),
       front-length (marks_so_far t (written t ps)) (marks_of t (written t ps)) (marks-front t (written t ps)),
-      (laws t).one_more ps suits valid,
+      (laws t).one_more is ps suits valid,
     )
 
-pub early-by : (s : Spec) (specs : List Spec) (moments : ℕ → ℕ) (bytes : List ℕ) →
+pub early-by : (s : Spec) (specs : List Spec) (moments : ℕ → ℕ) (bytes : List ℕ) → AreSpecs specs →
     length (marks_so_far s bytes) + length specs ≤ 2 ^ 41 + 10 →
     length bytes ≤ 2 ^ 51 + 2 ^ 14 → IsEarly (links_from s specs) moments bytes
-early-by s [] moments bytes few short = short
-early-by s (t ∷ ts) moments bytes few short =
+early-by s [] moments bytes are few short = short
+early-by s (t ∷ ts) moments bytes are few short =
     let l : Link = record { reads = s; writes = t } in
     let ps : List Put = puts_so_far s moments bytes in
     let suits : suited (signs_in ps) ≡ true = suited-so_far s moments (reads s) bytes in
     let same : length (signs_in ps) ≡ length (marks_so_far s bytes) = ap length (so_far-in s moments bytes) in (
       short,
-      early-by t ts (moments_on l moments bytes) (live t ps)
-          (omega (arith, live-one_more t ps suits (so_far-valid s moments bytes), few, same))
-          (omega (arith, live-short t ps suits, few, same)),
+      early-by t ts (moments_on l moments bytes) (live t ps) are.1
+          (omega (arith, live-one_more t ps are.0 suits (so_far-valid s moments bytes), few, same))
+          (omega (arith, live-short t ps are.0 suits, few, same)),
     )
 
-pub ends-early-by : (s : Spec) (specs : List Spec) (moments : ℕ → ℕ) (bytes : List ℕ) →
+pub ends-early-by : (s : Spec) (specs : List Spec) (moments : ℕ → ℕ) (bytes : List ℕ) → AreSpecs specs →
     length (marks_of s bytes) + length specs ≤ 2 ^ 41 + 10 → EndsEarly (links_from s specs) moments bytes
-ends-early-by s [] moments bytes few = tt
-ends-early-by s (t ∷ ts) moments bytes few =
+ends-early-by s [] moments bytes are few = tt
+ends-early-by s (t ∷ ts) moments bytes are few =
     let l : Link = record { reads = s; writes = t } in
     let ps : List Put = puts_of s moments bytes in
     let suits : suited (signs_in ps) ≡ true = hop-suits s moments bytes in
     let same : length (signs_in ps) ≡ length (marks_of s bytes) = ap length (hop-in s moments bytes) in
-    let more : length (marks_of t (written t ps)) ≤ length (signs_in ps) + 1 = (laws t).one_more ps suits
+    let more : length (marks_of t (written t ps)) ≤ length (signs_in ps) + 1 = (laws t).one_more are.0 ps suits
     (hop-valid s moments bytes) in (
-      early-by t ts (moments_all l moments bytes) (written t ps)
+      early-by t ts (moments_all l moments bytes) (written t ps) are.1
           (omega (
             arith,
             front-length (marks_so_far t (written t ps)) (marks_of t (written t ps))
@@ -107,15 +108,15 @@ ends-early-by s (t ∷ ts) moments bytes few =
             few,
             same,
           ))
-          (omega (arith, (laws t).size ps suits, few, same)),
-      ends-early-by t ts (moments_all l moments bytes) (written t ps) (omega (arith, more, few, same)),
+          (omega (arith, (laws t).size are.0 ps suits, few, same)),
+      ends-early-by t ts (moments_all l moments bytes) (written t ps) are.1 (omega (arith, more, few, same)),
     )
 
 -- of an input of at most 2^40 bytes
-pub chain-early : (s : Spec) (specs : List Spec) (moments : ℕ → ℕ) (bytes : List ℕ) → length specs ≤ 10 →
-    length bytes ≤ 2 ^ 40 → IsEarly (links_from s specs) moments bytes
-chain-early s specs moments bytes few short =
-    early-by s specs moments bytes (omega (
+pub chain-early : (s : Spec) (specs : List Spec) (moments : ℕ → ℕ) (bytes : List ℕ) → AreSpecs specs →
+    length specs ≤ 10 → length bytes ≤ 2 ^ 40 → IsEarly (links_from s specs) moments bytes
+chain-early s specs moments bytes are few short =
+    early-by s specs moments bytes are (omega (
       arith,
       front-length (marks_so_far s bytes) (marks_of s bytes)
           (marks-front s bytes),
@@ -124,7 +125,7 @@ chain-early s specs moments bytes few short =
       short,
     )) (omega (arith, short))
 
-pub chain-ends_early : (s : Spec) (specs : List Spec) (moments : ℕ → ℕ) (bytes : List ℕ) → length specs ≤ 10 →
-    length bytes ≤ 2 ^ 40 → EndsEarly (links_from s specs) moments bytes
-chain-ends_early s specs moments bytes few short = ends-early-by s specs moments bytes
+pub chain-ends_early : (s : Spec) (specs : List Spec) (moments : ℕ → ℕ) (bytes : List ℕ) → AreSpecs specs →
+    length specs ≤ 10 → length bytes ≤ 2 ^ 40 → EndsEarly (links_from s specs) moments bytes
+chain-ends_early s specs moments bytes are few short = ends-early-by s specs moments bytes are
     (omega (arith, (laws s).few bytes, few, short))

@@ -3,7 +3,8 @@
 --   links_of specs             its hops: each reads by the spec that the one before writes by
 --   chain_links chain          the hops that a chain has
 --   is_broken chain            whether a call was refused
---   ChainStands chain bytes    it was fed these bytes, and each hop what the one before wrote; no call was refused
+--   ChainStands chain bytes    it was fed these bytes, and each hop what the one before wrote; what the hops write are
+--                              ports of their carriers, and no call was refused
 --   ChainEnded chain bytes     the same at their end: how many bytes each hop wrote
 --   ChainFed, ChainHalted ..   what went out of an input, of all bytes so far; ChainFinished, ChainEndHalted: of the
 --                              end
@@ -12,6 +13,7 @@
 use Rattle.std.specs.Prelude.{◌≡◌, ℕ, ◌<◌, Bool, false, List, [], ◌∷◌, ◌++◌, length, map, take}
 use Rattle.mb_message.specs.Front.{IsPart}
 use Rattle.mb_carrier.specs.Conversion.{none_set}
+use Rattle.mb_carrier.specs.Word.{AreSpecs}
 use Rattle.mb_carrier.specs.declared.spec.Spec.{Spec}
 use Rattle.mb_chain.specs.Row.{Link, link_of, links_from, live_over, through_over, RowStands, RowDone}
 use Rattle.mb_chain.specs.declared.chain.Chain.{Chain}
@@ -25,6 +27,10 @@ links_of (s ∷ ss) = links_from s ss
 abbrev pub chain_links : Chain → List Link
 chain_links c = map link_of c.hops.items
 
+-- the specs that its hops write
+abbrev pub written_by : List Link → List Spec
+written_by links = map (λ l. l.writes) links
+
 -- whether a call was refused
 abbrev pub is_broken : Chain → Bool
 is_broken c = c.is_broken
@@ -32,6 +38,7 @@ is_broken c = c.is_broken
 pub record ChainStands (c : Chain) (bytes : List ℕ) : Type 0 where
   pub row : RowStands c.hops.items none_set bytes
   pub fed : c.fed ≡ length bytes
+  pub are_specs : AreSpecs (written_by (chain_links c))
   pub whole : is_broken c ≡ false
 
 pub record ChainEnded (c : Chain) (bytes : List ℕ) : Type 0 where

@@ -37,6 +37,8 @@ pub(crate) fn end<K: Out>(hops: &mut [Hop], out: &mut K) -> Result<(), Refused>
         return Err(refused);
     }
     let mut rest = Buf::new();
+    let room = hop.writer.room();
+    prove!(room <= rest.capacity());
     hop.writer.finish(&mut rest);
     hop.wrote += rest.len() as u64;
     if let Err(refused) = flow(behind, at, rest.as_slice(), out) {
@@ -60,6 +62,8 @@ fn put_last(reader: &mut PortReader, writer: &mut PortWriter, moment: u64, held:
         LastPut (reader_spec reader.old) (writer_spec writer.old) (ReaderStands reader.old)
         (WriterStands writer.old) (WriterStands writer.new) moment result held.new.items moments bytes }
 {
+    let room = writer.room();
+    prove!(room <= held.capacity());
     match EventReader::finish(reader) {
         Some(Seen::Ev(ev)) => {
             let at = EventReader::moment(reader, moment);

@@ -1,8 +1,9 @@
 -- Blocks without a byte, and a byte that is put into one of them.
-use Rattle.std.proofs.Common.{◌≡◌, ℕ, zero, suc, ◌+◌, ◌-◌, ◌*◌, ◌<◌, Option, Some, None, List, [], ◌∷◌, ◌++◌, length, flat_map, get_or, refl, sym, ◌∙◌, ap, arith, append_assoc}
+use Rattle.std.proofs.Common.{◌≡◌, ℕ, zero, suc, ◌+◌, ◌-◌, ◌*◌, ◌<◌, Option, Some, None, List, [], ◌∷◌, ◌++◌, length}
+use Rattle.std.proofs.Common.{flat_map, get_or, refl, sym, ◌∙◌, ap, arith, append_assoc}
 use Rattle.std.proofs.Math.ListN.{set}
 use Rattle.std.proofs.lemmas.List.{set-append_right}
-use Rattle.mb_fire.specs.Written.{quadlet, block, no_bytes, alone}
+use Rattle.mb_fire.specs.Written.{quadlet, block, no_bytes, alone, packet_of}
 use Rattle.mb_fire.proofs.WrittenPackets.{length-block}
 
 -- so many quadlets without a byte
@@ -39,10 +40,13 @@ unfolding none
 empty-blocks k = empty-many k 8
 
 -- eight more
-pub eight-more : (i : ℕ) (before now next : List ℕ) → now ≡ before ++ empty (8 * i) → next ≡ now ++ empty 8 → next ≡ before ++ empty (8 * (i + 1))
+pub eight-more : (i : ℕ) (before now next : List ℕ) → now ≡ before ++ empty (8 * i) → next ≡ now ++ empty 8 →
+    next ≡ before ++ empty (8 * (i + 1))
 eight-more i before now next e f =
     let same : 8 * i + 8 ≡ 8 * (i + 1) = omega arith in
-    f ∙ (ap (λ z. z ++ empty 8) e ∙ (append_assoc before (empty (8 * i)) (empty 8) ∙ ap (λ z. before ++ z) (sym (empty-append (8 * i) 8) ∙ ap empty same)))
+    f ∙ (ap (λ z. z ++ empty 8) e ∙
+    (append_assoc before (empty (8 * i)) (empty 8)
+    ∙ ap (λ z. before ++ z) (sym (empty-append (8 * i) 8) ∙ ap empty same)))
 
 -- A byte in the last quadlet of a block.
 
@@ -53,25 +57,31 @@ filled-behind : (xs ys : List ℕ) (n at b : ℕ) → length xs ≡ n → filled
 filled-behind xs ys n at b e =
     let first : n + at - n ≡ at = omega arith in
     let second : n + at + 1 - n ≡ at + 1 = omega arith in
-    ap (λ z. set z (n + at + 1) b) (set-append_right xs ys n (n + at) 0x81 e (omega arith) ∙ ap (λ i. xs ++ set ys i 0x81) first) ∙
-    (set-append_right xs (set ys at 0x81) n (n + at + 1) b e (omega arith) ∙ ap (λ i. xs ++ set (set ys at 0x81) i b) second)
+    ap (λ z. set z (n + at + 1) b) (set-append_right xs ys n (n + at) 0x81 e (omega arith)
+    ∙ ap (λ i. xs ++ set ys i 0x81) first) ∙
+    (set-append_right xs (set ys at 0x81) n (n + at + 1) b e (omega arith)
+    ∙ ap (λ i. xs ++ set (set ys at 0x81) i b) second)
 
 filled-block : (k b : ℕ) (more : List ℕ) → filled (block k None ++ more) (4 * k) b ≡ block k (Some b) ++ more
 filled-block zero b more = refl
 filled-block (suc k) b more =
     let same : 4 * suc k ≡ 4 + 4 * k = omega arith in
     ap (λ i. filled (quadlet None ++ (block k None ++ more)) i b) same ∙
-    (filled-behind (quadlet None) (block k None ++ more) 4 (4 * k) b refl ∙ ap (λ z. quadlet None ++ z) (filled-block k b more))
+    (filled-behind (quadlet None) (block k None ++ more) 4 (4 * k) b refl
+    ∙ ap (λ z. quadlet None ++ z) (filled-block k b more))
 
 -- the place of a stream's quadlet in eight blocks
 abbrev pub quadlet_at : (place stream : ℕ) → ℕ
 quadlet_at k m = 4 * ((k + 1) * m + k)
 
-pub filled-blocks : (k m b : ℕ) (ws : List (Option ℕ)) → m < length ws → get_or ws m (Some 0) ≡ None → filled (flat_map (block k) ws) (quadlet_at k m) b ≡ flat_map (block k) (set ws m (Some b))
+pub filled-blocks : (k m b : ℕ) (ws : List (Option ℕ)) → m < length ws → get_or ws m (Some 0) ≡ None →
+    filled (flat_map (block k) ws) (quadlet_at k m) b ≡ flat_map (block k) (set ws m (Some b))
 filled-blocks k m b [] low none = absurd (omega arith)
 filled-blocks k zero b (w ∷ ws) low none =
     let same : 4 * ((k + 1) * 0 + k) ≡ 4 * k = omega arith in
-    ap (λ i. filled (block k w ++ flat_map (block k) ws) i b) same ∙ (ap (λ v. filled (block k v ++ flat_map (block k) ws) (4 * k) b) none ∙ filled-block k b (flat_map (block k) ws))
+    ap (λ i. filled (block k w ++ flat_map (block k) ws) i b) same
+    ∙ (ap (λ v. filled (block k v ++ flat_map (block k) ws) (4 * k) b) none
+    ∙ filled-block k b (flat_map (block k) ws))
 filled-blocks k (suc m) b (w ∷ ws) low none =
     let more : (k + 1) * suc m ≡ (k + 1) + (k + 1) * m = grind (arith) in
     let same : 4 * ((k + 1) * suc m + k) ≡ 4 * (k + 1) + 4 * ((k + 1) * m + k) = omega (arith, more) in
@@ -102,8 +112,37 @@ none-at (suc (suc (suc (suc (suc (suc (suc zero))))))) low = refl
 none-at (suc (suc (suc (suc (suc (suc (suc (suc m)))))))) low = absurd (omega arith)
 
 -- what a byte behind other bytes makes of the blocks without one
-pub blocks-filled : (k m b n : ℕ) (out between behind : List ℕ) → m < 8 → length out ≡ n → between ≡ out ++ flat_map (block k) no_bytes → behind ≡ filled between (n + quadlet_at k m) b →
+pub blocks-filled : (k m b n : ℕ) (out between behind : List ℕ) → m < 8 → length out ≡ n →
+    between ≡ out ++ flat_map (block k) no_bytes → behind ≡ filled between (n + quadlet_at k m) b →
     behind ≡ out ++ flat_map (block k) (alone m b)
 blocks-filled k m b n out between behind low len e f =
-    f ∙ (ap (λ z. filled z (n + quadlet_at k m) b) e ∙ (filled-behind out (flat_map (block k) no_bytes) n (quadlet_at k m) b len ∙
+    f ∙ (ap (λ z. filled z (n + quadlet_at k m) b) e
+    ∙ (filled-behind out (flat_map (block k) no_bytes) n (quadlet_at k m) b len ∙
     ap (λ z. out ++ z) (filled-blocks k m b no_bytes low (none-at m low) ∙ ap (flat_map (block k)) (alone-is m b low))))
+
+-- A whole packet of the first eight ports.
+
+abbrev pub first_empty : List ℕ
+first_empty = 0 ∷ 40 ∷ 0 ∷ 1 ∷ 0 ∷ 0 ∷ 0x90 ∷ 0x02 ∷ 0xff ∷ 0xff ∷ empty 8
+
+first-by : (m b d : ℕ) → m < 8 → filled (set first_empty 5 d) (10 + 4 * m) b ≡ packet_of 0 d (alone m b)
+first-by zero b d low = refl
+first-by (suc zero) b d low = refl
+first-by (suc (suc zero)) b d low = refl
+first-by (suc (suc (suc zero))) b d low = refl
+first-by (suc (suc (suc (suc zero)))) b d low = refl
+first-by (suc (suc (suc (suc (suc zero))))) b d low = refl
+first-by (suc (suc (suc (suc (suc (suc zero)))))) b d low = refl
+first-by (suc (suc (suc (suc (suc (suc (suc zero))))))) b d low = refl
+first-by (suc (suc (suc (suc (suc (suc (suc (suc m)))))))) b d low = absurd (omega arith)
+
+pub first-filled : (m b d n : ℕ) (out appended counted behind : List ℕ) → m < 8 → length out ≡ n →
+    appended ≡ out ++ first_empty → counted ≡ set appended (n + 5) d →
+    behind ≡ filled counted (n + (10 + 4 * m)) b → behind ≡ out ++ packet_of 0 d (alone m b)
+first-filled m b d n out appended counted behind low len e f g =
+    let place : n + 5 - n ≡ 5 = omega arith in
+    let count : counted ≡ out ++ set first_empty 5 d =
+    f ∙ (ap (λ z. set z (n + 5) d) e ∙ (set-append_right out first_empty n (n + 5) d len (omega arith)
+    ∙ ap (λ i. out ++ set first_empty i d) place)) in
+    g ∙ (ap (λ z. filled z (n + (10 + 4 * m)) b) count
+    ∙ (filled-behind out (set first_empty 5 d) n (10 + 4 * m) b len ∙ ap (λ z. out ++ z) (first-by m b d low)))

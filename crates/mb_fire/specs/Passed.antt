@@ -6,14 +6,16 @@
 --   behind_whole_quadlet p c l    behind a quadlet; behind_whole_rest, behind_whole_label behind a part of one
 --   IsQuiet port c label next     a quadlet that is passed over, behind which blocks go on
 --   PassedOver port was now ..    bytes were passed over that aren't the port's
-use Rattle.std.specs.Prelude.{◌≡◌, ℕ, ◌+◌, ◌-◌, ◌*◌, ◌%◌, Bool, true, false, not, ◌&&◌, ◌==◌, nat_lt, nat_le, List, [], ◌∷◌, ◌++◌}
+use Rattle.std.specs.Prelude.{◌≡◌, ℕ, ◌+◌, ◌-◌, ◌*◌, ◌%◌, Bool, true, false, not, ◌&&◌, ◌==◌, nat_lt, nat_le, List, []}
+use Rattle.std.specs.Prelude.{◌∷◌, ◌++◌}
 use Rattle.mb_fire.specs.declared.due.Due.TheVariants.{Nothing}
 use Rattle.mb_fire.specs.declared.place.BegunHeader.{BegunHeader}
 use Rattle.mb_fire.specs.declared.place.BlockPlace.{BlockPlace}
 use Rattle.mb_fire.specs.declared.place.Place.TheVariants.{Within}
 use Rattle.mb_fire.specs.declared.under.Packet.{Packet}
 use Rattle.mb_fire.specs.State.{is_of_port}
-use Rattle.mb_fire.specs.Under.{behind_header, expected_behind, notes_at_header, label_after, behind_quadlet, notes_behind, due_by, packet_after, packet_behind}
+use Rattle.mb_fire.specs.Under.{behind_header, expected_behind, notes_at_header, label_after, behind_quadlet}
+use Rattle.mb_fire.specs.Under.{notes_behind, due_by, packet_after, packet_behind}
 
 abbrev pub carries : (port : ℕ) → BlockPlace → (label : ℕ) → Bool
 carries port c label = nat_le 0x81 label && nat_le label 0x83 && nat_lt c.midi 8 && (8 * c.midi + c.count % 8 == port)

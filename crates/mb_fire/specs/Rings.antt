@@ -3,7 +3,8 @@
 --   Writer                     its value
 --   Stands w marks sent n      each port was given these marks and sent these bytes, in so many packets; the rest waits
 --   heads rings                the first byte that waits for each
-use Rattle.std.specs.Prelude.{◌≡◌, ℕ, ◌<◌, ◌==◌, if◌then◌else◌, Bool, true, false, List, [], ◌∷◌, ◌++◌, map, drop, slice_get, slice_index_or, Option, Some, None, option_to_list}
+use Rattle.std.specs.Prelude.{◌≡◌, ℕ, ◌<◌, ◌==◌, if◌then◌else◌, Bool, true, false, List, [], ◌∷◌, ◌++◌, map, drop}
+use Rattle.std.specs.Prelude.{slice_get, slice_index_or, Option, Some, None, option_to_list}
 use Rattle.mb_message.specs.Signs.{Sign}
 use Rattle.mb_stream.specs.Spelling.{full_bytes}
 use Rattle.mb_stream.specs.Standing.{is_open, suited}

@@ -1,6 +1,7 @@
 //! The reader of one port.
 
-ghost use Rattle.std.specs.Prelude.{◌≡◌, ◌+◌, ◌*◌, ◌%◌, ◌<◌, ◌≤◌, ◌^◌, ◌↔◌, not, true, false, [], ℕ, List, length, take, OnSome, IsSome, IfSome, IfNone};
+ghost use Rattle.std.specs.Prelude.{◌≡◌, ◌+◌, ◌*◌, ◌%◌, ◌<◌, ◌≤◌, ◌^◌, ◌↔◌, not, true, false, [], ℕ, List, length};
+ghost use Rattle.std.specs.Prelude.{take, OnSome, IsSome, IfSome, IfNone};
 ghost use Rattle.mb_stream.specs.Groups.{last_of};
 ghost use Rattle.mb_stream.specs.Told.{Known, at_end};
 ghost use Rattle.mb_stream.specs.Reading.{told_signs};
@@ -121,7 +122,8 @@ fn read_port<'a>(
     requires early { packet.old.offset + length input.old.now < 2 ^ 63 }
     requires behind { IsBehind packet.old din.old }
     ensures tells { Tells bare_told (port_so_far own)
-        (PortHolds own packet.old din.old) (PortHolds own packet.new din.new) input.old.now input.new.now (answer result) }
+        (PortHolds own packet.old din.old) (PortHolds own packet.new din.new)
+        input.old.now input.new.now (answer result) }
     ensures some { OnSome result (answer result ≡ [] → ⊥) }
     ensures all_told { IfNone result (AllTold (port_so_far own) (PortHolds own packet.old din.old) input.old.now) }
     ensures behind { IsBehind packet.new din.new }

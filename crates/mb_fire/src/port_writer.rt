@@ -6,7 +6,7 @@ ghost use Rattle.mb_message.specs.Signs.{Sign, suits_event, open_behind, signs_o
 ghost use Rattle.mb_stream.specs.Appended.{Appended};
 ghost use Rattle.mb_stream.specs.Spelling.{data_of, full_bytes};
 ghost use Rattle.mb_fire.specs.Running.{fire_from, dbc_behind};
-ghost use Rattle.mb_fire.specs.PortWriter.{Stands, fresh, longest, room, event_room, frame_size};
+ghost use Rattle.mb_fire.specs.PortWriter.{Stands, fresh, longest, room, short_room, event_room, frame_size};
 ghost use Rattle.mb_fire.specs.Written.{fire_written};
 
 use crate::packet::put_packet;
@@ -47,6 +47,15 @@ impl FirePortWriter {
         }
     }
 
+    /// The port that it writes.
+    #[inline(always)]
+    pub fn port(&self) -> u8
+        ensures port { result ≡ self.now.port }
+        ensures within { result < 64 }
+    {
+        self.port
+    }
+
     /// Whether a SysEx is open.
     #[inline(always)]
     pub fn in_sysex(&self) -> bool
@@ -69,6 +78,15 @@ impl FirePortWriter {
         ensures { result ≡ room self.now.port }
     {
         if self.port < 8 { 672 } else { 798 }
+    }
+
+    /// The most free bytes that `put` asks for, of an event of at most three bytes.
+    #[inline(always)]
+    pub fn short_room(&self) -> usize
+        ensures room { result ≡ short_room self.now.port }
+        ensures fits { result ≤ 798 }
+    {
+        3 * (42 + 32 * usize::from(self.port / 8))
     }
 
     /// Appends a packet for each byte of an event.

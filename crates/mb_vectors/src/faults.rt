@@ -200,6 +200,8 @@ const NO_COMMANDS: &[&[&str]] = &[
     &["convert", "din", "usb:16"],
     &["convert", "din", "usb:00"],
     &["convert", "din", "usb:"],
+    &["convert", "din", "fw:64"],
+    &["convert", "fw:07", "din"],
     &["convert", "din", "midi"],
     &["Convert", "din", "usb:0"],
     &["--help"],

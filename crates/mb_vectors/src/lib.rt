@@ -12,6 +12,8 @@ mod conversion;
 #[cfg(test)]
 mod faults;
 #[cfg(test)]
+mod fire;
+#[cfg(test)]
 mod listing;
 #[cfg(test)]
 mod ports;

@@ -81,6 +81,14 @@ const PORTS: &[Port] = &[
         true,
     ),
     (
+        "a dump that a quadlet's end cuts, and a clock behind it",
+        "fw:5",
+        &[0, 0x0c, 0, 1, 0, 5, 0x90, 2, 0xff, 0xff, 0x83, 0xf0, 0x07],
+        &[0xf8, 0, 0x0c],
+        "1250 open\n1250 data 07\n1251 rt F8\n1251 abort\nnone\n",
+        true,
+    ),
+    (
         "a line is never partial",
         "din",
         &[0xf0],
@@ -106,34 +114,63 @@ fn a_port_is_read_at_the_moments_that_are_set(rt: HostRuntime) {
     }
 }
 
-/// Whether a SysEx of one byte becomes this at once, and this with the finish.
+/// Whether a SysEx of one byte becomes this at once, and this with the finish. Each call has a buffer of its own.
 fn writes(writer: &mut PortWriter, at_once: &[u8], whole: &[u8]) -> bool {
-    if writer.in_sysex() {
+    if writer.in_sysex() || writer.room() > 1024 {
         return false;
     }
-    let mut out = Buf::new();
-    writer.put(0, Ev::Open, &mut out);
-    writer.put(7, Ev::Run(&[0x01]), &mut out);
-    writer.flush(&mut out);
-    if !writer.in_sysex() || writer.longest() != 16 || out.as_slice() != at_once {
+    let mut written = Buf::new();
+    let mut start = Buf::new();
+    writer.put(0, Ev::Open, &mut start);
+    let _ = written.try_extend_from_slice(start.as_slice());
+    let mut data = Buf::new();
+    writer.put(7, Ev::Run(&[0x01]), &mut data);
+    let _ = written.try_extend_from_slice(data.as_slice());
+    let mut flushed = Buf::new();
+    writer.flush(&mut flushed);
+    let _ = written.try_extend_from_slice(flushed.as_slice());
+    if !writer.in_sysex() || written.as_slice() != at_once {
         return false;
     }
-    writer.finish(&mut out);
-    !writer.in_sysex() && out.as_slice() == whole
+    let mut rest = Buf::new();
+    writer.finish(&mut rest);
+    let _ = written.try_extend_from_slice(rest.as_slice());
+    !writer.in_sysex() && written.as_slice() == whole
 }
 
-/// A port, the room that its writer asks for, and what a SysEx of one byte becomes at once, and with the finish.
-const WRITTEN: &[(&str, usize, &[u8], &[u8])] = &[
-    ("din", 16, &[0xf0, 0x01], &[0xf0, 0x01]),
-    ("usb:2", 24, &[], &[0x2f, 0xf0, 0, 0, 0x2f, 0x01, 0, 0]),
+/// A start of a SysEx and a byte of it as packets of port 0, and of port 8.
+const DUMP_OF_0: &[u8] = &[
+    0, 0x28, 0, 1, 0, 0, 0x90, 2, 0xff, 0xff, 0x81, 0xf0, 0, 0, 0x80, 0, 0, 0, 0x80, 0, 0, 0, 0x80,
+    0, 0, 0, 0x80, 0, 0, 0, 0x80, 0, 0, 0, 0x80, 0, 0, 0, 0x80, 0, 0, 0, 0, 0x28, 0, 1, 0, 8, 0x90,
+    2, 0xff, 0xff, 0x81, 0x01, 0, 0, 0x80, 0, 0, 0, 0x80, 0, 0, 0, 0x80, 0, 0, 0, 0x80, 0, 0, 0,
+    0x80, 0, 0, 0, 0x80, 0, 0, 0, 0x80, 0, 0, 0,
+];
+
+const DUMP_OF_8: &[u8] = &[
+    0, 0x48, 0, 2, 0, 0, 0x90, 2, 0xff, 0xff, 0x80, 0, 0, 0, 0x81, 0xf0, 0, 0, 0x80, 0, 0, 0, 0x80,
+    0, 0, 0, 0x80, 0, 0, 0, 0x80, 0, 0, 0, 0x80, 0, 0, 0, 0x80, 0, 0, 0, 0x80, 0, 0, 0, 0x80, 0, 0,
+    0, 0x80, 0, 0, 0, 0x80, 0, 0, 0, 0x80, 0, 0, 0, 0x80, 0, 0, 0, 0x80, 0, 0, 0, 0x80, 0, 0, 0, 0,
+    0x48, 0, 2, 0, 8, 0x90, 2, 0xff, 0xff, 0x80, 0, 0, 0, 0x81, 0x01, 0, 0, 0x80, 0, 0, 0, 0x80, 0,
+    0, 0, 0x80, 0, 0, 0, 0x80, 0, 0, 0, 0x80, 0, 0, 0, 0x80, 0, 0, 0, 0x80, 0, 0, 0, 0x80, 0, 0, 0,
+    0x80, 0, 0, 0, 0x80, 0, 0, 0, 0x80, 0, 0, 0, 0x80, 0, 0, 0, 0x80, 0, 0, 0, 0x80, 0, 0, 0,
+];
+
+/// A port, the room that its writer asks for, the longest run that it takes, and what a SysEx of one byte becomes at
+/// once, and with the finish.
+const WRITTEN: &[(&str, usize, usize, &[u8], &[u8])] = &[
+    ("din", 16, 16, &[0xf0, 0x01], &[0xf0, 0x01]),
+    ("usb:2", 24, 16, &[], &[0x2f, 0xf0, 0, 0, 0x2f, 0x01, 0, 0]),
+    ("fw:0", 672, 16, DUMP_OF_0, DUMP_OF_0),
+    ("fw:8", 798, 3, DUMP_OF_8, DUMP_OF_8),
 ];
 
 #[test]
 fn a_port_is_written(rt: HostRuntime) {
-    for (word, room, at_once, whole) in WRITTEN {
+    for (word, room, longest, at_once, whole) in WRITTEN {
         let spec = Spec::read(word).expect(&rt, "a port");
         let mut writer = PortWriter::new(rt.alloc(), spec).expect(&rt, "memory");
         assert!(rt; writer.room() == *room, "{word}: room");
+        assert!(rt; writer.longest() == *longest, "{word}: longest");
         assert!(rt; writes(&mut writer, at_once, whole), "{word}");
     }
 }

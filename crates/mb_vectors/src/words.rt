@@ -20,6 +20,7 @@ fn command_of(rt: &impl Abort, alloc: Global, words: &[&str]) -> ArrayVec<u8, 64
         Ok(Command::Convert { tally: false, .. }) => b"no tally",
         Ok(Command::Trace(Spec::Din)) => b"trace",
         Ok(Command::Check(Spec::Usb(_))) => b"check",
+        Ok(Command::Check(Spec::Fire(_))) => b"check of FireWire",
         Ok(_) => b"another",
         Err(_) => b"none",
     });
@@ -31,6 +32,9 @@ const WORDS: &[(&[&str], &[u8])] = &[
     (&["convert", "tally", "din", "din", "din"], b"a tally"),
     (&["trace", "din"], b"trace"),
     (&["check", "usb:15"], b"check"),
+    (&["check", "fw:63"], b"check of FireWire"),
+    (&["check", "fw:64"], b"none"),
+    (&["check", "fw:00"], b"none"),
     (&["convert", "tally"], b"none"),
 ];
 
@@ -52,6 +56,7 @@ const LINES: &[(u8, Spec, u64, &str)] = &[
         u64::MAX,
         "9 usb:15 18446744073709551615\n",
     ),
+    (1, Spec::Fire(63), 42, "1 fw:63 42\n"),
 ];
 
 #[test]

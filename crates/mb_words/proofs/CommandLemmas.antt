@@ -2,10 +2,10 @@
 use Rattle.std.proofs.Common.{◌≡◌, ℕ, suc, Bool, true, false, if◌then◌else◌, List, [], ◌∷◌, ◌++◌, length, refl, sym}
 use Rattle.std.proofs.Common.{◌∙◌, ap, subst, arith, codes}
 use Rattle.std.specs.Str.{bytes_eq}
-use Rattle.mb_carrier.specs.Word.{IsWordOf, AreSpecs}
+use Rattle.mb_carrier.specs.Word.{IsWordOf, IsSpec, AreSpecs}
 use Rattle.mb_carrier.specs.declared.spec.Spec.{Spec}
-use Rattle.mb_carrier.specs.declared.spec.Spec.TheVariants.{Din, Usb}
-use Rattle.mb_carrier.proofs.WordLemmas.{one_spec, word-is_spec}
+use Rattle.mb_carrier.specs.declared.spec.Spec.TheVariants.{Din, Usb, Fire}
+use Rattle.mb_carrier.proofs.WordLemmas.{one_spec, word-is_spec, first_letter}
 use Rattle.mb_words.specs.Command.{Command, Converting, Listing, Means, AreWordsOf, name_of, asks_tally, specs_of}
 use Rattle.mb_words.specs.Meaning.{front_of, end_of, converting}
 
@@ -39,14 +39,23 @@ are_specs [] (s ∷ specs) a = elim a [ ]
 are_specs (w ∷ words) [] a = elim a [ ]
 are_specs (w ∷ words) (s ∷ specs) a = (word-is_spec w s a.0, are_specs words specs a.1)
 
+-- the specs that a conversion writes
+
+are_written : (between : List Spec) (last : Spec) → AreSpecs (between ++ last ∷ []) → AreSpecs between × IsSpec last
+are_written [] last are = (tt, are.0)
+are_written (s ∷ between) last are = let behind = are_written between last are.1 in ((are.0, behind.0), behind.1)
+
+pub written_specs : (words : List (List ℕ)) (tally : Bool) (first : Spec) (between : List Spec) (last : Spec) →
+    Means words (Converting tally first between last) → AreSpecs between × IsSpec last
+written_specs words tally first between last m =
+    are_written between last (are_specs m.arguments (first ∷ (between ++ last ∷ [])) m.are_specs).1
+
 -- `tally` is no spec's word
-abbrev first_letter : List ℕ → ℕ
-first_letter [] = 0
-first_letter (letter ∷ letters) = letter
 
 not_tally : (s : Spec) → IsWordOf (codes "tally") s → ⊥
 not_tally Din e = (let differ : 116 ≡ 100 = ap first_letter e in omega (arith, differ))
 not_tally (Usb cable) e = (let differ : 116 ≡ 117 = ap first_letter e.1 in omega (arith, differ))
+not_tally (Fire port) e = (let differ : 116 ≡ 102 = ap first_letter e.1 in omega (arith, differ))
 
 -- whether a tally is asked
 

@@ -1,7 +1,7 @@
 use Rattle.std.proofs.Common.{ℕ, ◌+◌, ◌≤◌, List, ◌∙◌, map, refl, subst, arith}
 use Rattle.arrayvec.specs.ArrayVec.{array_vec_len}
 use Rattle.mb_message.specs.Signs.{ByteSign}
-use Rattle.mb_carrier.specs.Carrier.{room_of}
+use Rattle.mb_carrier.specs.Carrier.{hop_room_of}
 use Rattle.mb_carrier.specs.Hop.{MayCome}
 use Rattle.mb_carrier.specs.declared.spec.Spec.{Spec}
 use Rattle.mb_carrier.proofs.FillLemmas.{put_some-more, may_come-back, cut_at}
@@ -17,7 +17,7 @@ pieces-preserved g c =
     record {
       spec = c.put_one.ensures.spec ∙ c.pieces.invariant.spec;
       in_sysex = c.put_one.ensures.in_sysex ∙ c.pieces.invariant.in_sysex;
-      room = subst (λ (s : Spec). array_vec_len c.put_one.new.held + room_of s ≤ 1024) c.pieces.invariant.spec
+      room = subst (λ (s : Spec). array_vec_len c.put_one.new.held + hop_room_of s ≤ 1024) c.pieces.invariant.spec
           (c.if-not-put_one.ensures.room refl);
       suits =
           may_come-back (g.W.EventWriter.in_sysex c.args.writer.now) c.split_at.result.0.now c.split_at.result.1.now

@@ -1,6 +1,6 @@
 use Rattle.std.proofs.Common.{◌+◌, ◌≤◌, ◌∙◌, refl, sym, ap, subst, arith}
 use Rattle.arrayvec.specs.ArrayVec.{array_vec_len}
-use Rattle.mb_carrier.specs.Carrier.{room_of}
+use Rattle.mb_carrier.specs.Carrier.{hop_room_of}
 use Rattle.mb_carrier.specs.declared.spec.Spec.{Spec}
 use Rattle.mb_stream.specs.Puts.{puts_at}
 use Rattle.mb_carrier.proofs.FillLemmas.{flows-empty, flows-owes, flows-seen, flows-step, flows-may_come, flows-done}
@@ -31,7 +31,7 @@ events-preserved g c =
       reads = c.next.ensures.spec ∙ c.events.invariant.reads;
       writes = c.put_seen.ensures.spec ∙ c.events.invariant.writes;
       offset = c.next.ensures.end ∙ c.events.invariant.offset;
-      room = subst (λ (s : Spec). array_vec_len c.put_seen.new.held + room_of s ≤ 1024) c.events.invariant.writes
+      room = subst (λ (s : Spec). array_vec_len c.put_seen.new.held + hop_room_of s ≤ 1024) c.events.invariant.writes
           (c.if-not-put_seen.ensures.room refl);
       later = omega (arith, c.in-Some.ensures.progress, c.events.invariant.later);
       flows = λ moments bytes puts base f.

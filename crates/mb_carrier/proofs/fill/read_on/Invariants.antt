@@ -1,7 +1,7 @@
 use Rattle.std.proofs.Common.{◌≡◌, ℕ, ◌+◌, ◌*◌, ◌≤◌, List, [], length}
 use Rattle.arrayvec.specs.ArrayVec.{array_vec_len}
 use Rattle.mb_stream.specs.Puts.{Put}
-use Rattle.mb_carrier.specs.Carrier.{room_of}
+use Rattle.mb_carrier.specs.Carrier.{hop_room_of}
 use Rattle.mb_carrier.specs.Fill.{Flows}
 use Rattle.mb_carrier.proofs.FillLemmas.{FlowsMore}
 use Rattle.mb_carrier.proofs.fill.read_on.Given as goal
@@ -15,7 +15,7 @@ invariant-events g l =
       reads : R.spec l.reader ≡ R.spec l.initial.reader;
       writes : W.spec l.writer ≡ W.spec l.initial.writer;
       offset : R.offset l.reader + length l.rest.now ≡ R.offset l.initial.reader + length l.initial.rest.now;
-      room : array_vec_len l.held + room_of (W.spec l.initial.writer) ≤ 1024;
+      room : array_vec_len l.held + hop_room_of (W.spec l.initial.writer) ≤ 1024;
       later : 2 * length l.rest.now + R.owed l.reader ≤ 2 * length l.initial.rest.now + R.owed l.initial.reader;
       flows : (moments : ℕ → ℕ) (bytes : List ℕ) (puts : List Put) (base : List ℕ) →
           Flows (R.spec l.initial.reader) (W.spec l.initial.writer) moments l.moment (R.stands l.initial.reader)

@@ -15,3 +15,9 @@ returns-in-Usb-clause-goes_on c =
     ways-read _ (reader.Usb c.in-Usb.reader) _ _ _ (WriterStands c.args.writer.now) _ c.args.apart c.args.piece.moment
     (Some c.args.piece) _ c.args.held.now.items _
     c.in-Usb.is c.fill_from-in-Usb.ensures.goes_on
+
+pub returns-in-Fire-clause-goes_on : goal.returns-in-Fire-clause-goes_on
+returns-in-Fire-clause-goes_on c =
+    ways-read _ (reader.Fire c.in-Fire.reader) _ _ _ (WriterStands c.args.writer.now) _ c.args.apart c.args.piece.moment
+    (Some c.args.piece) _ c.args.held.now.items _
+    c.in-Fire.is c.fill_from-in-Fire.ensures.goes_on

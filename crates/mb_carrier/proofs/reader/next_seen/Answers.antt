@@ -14,3 +14,11 @@ returns-in-Usb-clause-goes c = goes-by _ (reader.Usb c.in-Usb.reader) _ _ _ _ _ 
 pub returns-in-Usb-clause-all_told : goal.returns-in-Usb-clause-all_told
 returns-in-Usb-clause-all_told c = told_all-by _ _
     (reader.Usb c.in-Usb.reader) _ c.in-Usb.is c.next-in-Usb.ensures.all_told
+
+pub returns-in-Fire-clause-goes : goal.returns-in-Fire-clause-goes
+returns-in-Fire-clause-goes c =
+    goes-by _ (reader.Fire c.in-Fire.reader) _ _ _ _ _ c.in-Fire.is c.next-in-Fire.ensures.goes
+
+pub returns-in-Fire-clause-all_told : goal.returns-in-Fire-clause-all_told
+returns-in-Fire-clause-all_told c = told_all-by _ _
+    (reader.Fire c.in-Fire.reader) _ c.in-Fire.is c.next-in-Fire.ensures.all_told

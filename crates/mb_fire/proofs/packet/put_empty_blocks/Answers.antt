@@ -4,7 +4,8 @@ use Rattle.mb_fire.proofs.packet.put_empty_blocks.Goals as goal
 
 pub loop-index-preserved : goal.loop-index-preserved
 loop-index-preserved c = record {
-  bytes = eight-more c.loop-index._index c.args.out.now.items c.loop-index.out.items c.append.new.out.items c.loop-index.invariant.bytes c.append.ensures.written;
+  bytes = eight-more c.loop-index._index c.args.out.now.items c.loop-index.out.items c.append.new.out.items
+      c.loop-index.invariant.bytes c.append.ensures.written;
   len = omega (arith, c.loop-index.invariant.len, c.append.ensures.len);
 }
 

@@ -5,7 +5,9 @@ use Rattle.mb_fire.proofs.passed.pass_quiet.Given as goal
 
 abbrev pub invariant-quadlets : goal.invariant-quadlets
 invariant-quadlets l = record {
-  passed : PassedOver l.own l.fn.packet (within (l.fn.packet.offset + (length l.fn.input - length l.left)) l.place l.fn.packet.under.expected) l.fn.input l.left;
+  passed : PassedOver l.own l.fn.packet
+      (within (l.fn.packet.offset + (length l.fn.input - length l.left)) l.place l.fn.packet.under.expected) l.fn.input
+      l.left;
   shorter : length l.left ≤ length l.fn.input;
 }
 

@@ -8,7 +8,8 @@ abbrev pub invariant-bytes : goal.invariant-bytes
 invariant-bytes l = record {
   count : dbc_behind l.count l.rest ≡ dbc_behind l.fn.dbc l.fn.bytes;
   bytes : l.out.items ++ fire_from l.fn.port l.count l.rest ≡ l.fn.out.items ++ fire_from l.fn.port l.fn.dbc l.fn.bytes;
-  room : array_vec_len l.out + frame_size (l.fn.port / 8) * length l.rest ≡ array_vec_len l.fn.out + frame_size (l.fn.port / 8) * length l.fn.bytes;
+  room : array_vec_len l.out + frame_size (l.fn.port / 8) * length l.rest
+      ≡ array_vec_len l.fn.out + frame_size (l.fn.port / 8) * length l.fn.bytes;
 }
 
 abbrev pub decreases-bytes : goal.decreases-bytes

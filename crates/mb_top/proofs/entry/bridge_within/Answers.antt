@@ -2,6 +2,7 @@ use Rattle.std.proofs.Common.{◌∙◌, ◌++◌, refl, sym, ap, subst, arith}
 use Rattle.mb_carrier.specs.Carrier.{den, notes_of, whole}
 use Rattle.mb_carrier.proofs.ConversionLemmas.{through-means, through-clean, through-whole}
 use Rattle.mb_words.specs.Command.{Converting, Listing}
+use Rattle.mb_words.proofs.CommandLemmas.{written_specs}
 use Rattle.mb_top.specs.Output.{HasNotes, HasNoNotes}
 use Rattle.mb_top.specs.Answer.{Says, code_of, read_all}
 use Rattle.mb_top.specs.declared.status.Status.TheVariants.{Done, Noted}
@@ -23,7 +24,8 @@ pub returns-clause-headline : goal.returns-clause-headline
 returns-clause-headline g c = λ tally first between last tells m all.
     let t = went_through _ _ _ _ _ _ _ (Converting tally first between last) all m
     (returns-clause-contents g c tells) in
-    ap (den last) t.output_is ∙ through-means first between last _
+    let are = written_specs _ tally first between last m in
+    ap (den last) t.output_is ∙ through-means first between last _ are.0 are.1
 
 pub returns-clause-exact : goal.returns-clause-exact
 returns-clause-exact g c = λ tally first between last tells m all.
@@ -34,7 +36,8 @@ pub returns-clause-clean : goal.returns-clause-clean
 returns-clause-clean g c = λ tally first between last tells m all.
     let t = went_through _ _ _ _ _ _ _ (Converting tally first between last) all m
     (returns-clause-contents g c tells) in
-    ap (notes_of last) t.output_is ∙ through-clean first between last _
+    ap (notes_of last) t.output_is
+    ∙ through-clean first between last _ (written_specs _ tally first between last m).1
 
 pub returns-clause-whole : goal.returns-clause-whole
 returns-clause-whole g c = λ tally first between last tells m all.

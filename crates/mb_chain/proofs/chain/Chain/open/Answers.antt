@@ -2,6 +2,7 @@ use Rattle.std.proofs.Common.{refl, sym, subst, arith}
 use Rattle.mb_carrier.specs.Conversion.{none_set}
 use Rattle.mb_carrier.specs.Word.{IsSpec, AreSpecs}
 use Rattle.mb_chain.proofs.ChainLemmas.{AllFresh, fresh-push, fresh-row, links-next, links-done}
+use Rattle.mb_chain.proofs.ChainLemmas.{links-specs}
 use Rattle.mb_chain.proofs.chain.Chain.open.Goals as goal
 
 pub specs-preserved : goal.specs-preserved
@@ -17,7 +18,13 @@ specs-preserved c =
     }
 
 pub returns-clause-ok : goal.returns-clause-ok
-returns-clause-ok c = (
-  links-done _ _ _ _ c.in_default.ensures.cases c.specs.invariant.links,
-  record { row = fresh-row _ none_set c.specs.invariant.fresh; fed = refl; whole = refl },
-)
+returns-clause-ok c =
+    let links = links-done _ _ _ _ c.in_default.ensures.cases c.specs.invariant.links in (
+      links,
+      record {
+        row = fresh-row _ none_set c.specs.invariant.fresh;
+        fed = refl;
+        are_specs = links-specs c.args.specs.now _ links c.requires;
+        whole = refl;
+      },
+    )

@@ -3,7 +3,8 @@ use Rattle.mb_fire.proofs.port_writer.FirePortWriter.put.Goals as goal
 
 pub returns-clause-stands : goal.returns-clause-stands
 returns-clause-stands c marks =
-    Stands-put c.args.self.now c.write.new.self c.args.ev marks c.requires.suits c.write.ensures.in_sysex c.write.ensures.count
+    Stands-put c.args.self.now c.write.new.self c.args.ev marks c.requires.suits c.write.ensures.in_sysex
+    c.write.ensures.count
 
 pub returns-clause-written : goal.returns-clause-written
 returns-clause-written c marks =

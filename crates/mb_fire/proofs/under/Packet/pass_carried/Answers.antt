@@ -5,7 +5,8 @@ use Rattle.mb_fire.specs.declared.place.Place.{Place}
 use Rattle.mb_fire.specs.Under.{left_in, to_come, behind_quadlet, due_by, notes_behind}
 use Rattle.mb_fire.proofs.PassedLemmas.{at_place, within, carried-whole, carried-part}
 use Rattle.mb_fire.proofs.under.Packet.pass_carried.Goals as goal
-use Rattle.mb_fire.proofs.under.Packet.pass_carried.Goals.{else-next-eq0-via-then-next-eq0+else-next-eq0-2, else-next-eq0-via-else-next-eq0}
+use Rattle.mb_fire.proofs.under.Packet.pass_carried.Goals.{else-next-eq0-via-then-next-eq0+else-next-eq0-2}
+use Rattle.mb_fire.proofs.under.Packet.pass_carried.Goals.{else-next-eq0-via-else-next-eq0}
 
 pub returns-then-next-eq0-2 : goal.returns-then-next-eq0-2
 returns-then-next-eq0-2 c =
@@ -14,11 +15,14 @@ returns-then-next-eq0-2 c =
     let place = c.in-Within.place in
     let end : ℕ = p.offset + length bytes in
     let next = c.behind_carried-next.ensures in
-    let none : place.left - length bytes ≡ 0 = omega (arith, ap (λ (k : BlockPlace). k.left) next, c.if-next-eq0.true) in
+    let none : place.left - length bytes ≡ 0 =
+    omega (arith, ap (λ (k : BlockPlace). k.left) next, c.if-next-eq0.true) in
     let over : place.skip ≡ 0 = omega (arith, ap (λ (k : BlockPlace). k.skip) next, c.if-next-eq0-2.true) in
-    ap₂ (λ (u : Place) (d : Due). at_place end u p.under.expected d) (c.behind_quadlet-self.ensures ∙ ap behind_quadlet next)
+    ap₂ (λ (u : Place) (d : Due). at_place end u p.under.expected d) (c.behind_quadlet-self.ensures
+    ∙ ap behind_quadlet next)
     (c.due_behind-self.ensures ∙ ap (λ (k : BlockPlace). due_by (notes_behind k (end - 1))) next) ∙
-    carried-whole p place bytes c.in-Within.is (sym c.is_empty.ensures ∙ c.if-is_empty.false) (omega (arith, c.requires.few, ap left_in c.in-Within.is)) none over
+    carried-whole p place bytes c.in-Within.is (sym c.is_empty.ensures ∙ c.if-is_empty.false)
+    (omega (arith, c.requires.few, ap left_in c.in-Within.is)) none over
 
 pub returns-else-next-eq0 : goal.returns-else-next-eq0
 returns-else-next-eq0 c =
