@@ -19,8 +19,9 @@ use Rattle.mb_carrier.specs.Carrier.{payload_of, known, known_signs, end_told, m
 use Rattle.mb_carrier.specs.Carrier.{puts_so_far, live}
 use Rattle.mb_carrier.specs.Conversion.{moments_of, none_set, carried_so_far, live_through, through}
 use Rattle.mb_carrier.specs.Live.{HoldsBack, HeldBackBy, bytes_held, most_held}
+use Rattle.mb_carrier.specs.Word.{IsSpec, AreSpecs}
 use Rattle.mb_carrier.specs.declared.spec.Spec.{Spec}
-use Rattle.mb_carrier.specs.declared.spec.Spec.TheVariants.{Din, Usb}
+use Rattle.mb_carrier.specs.declared.spec.Spec.TheVariants.{Din, Usb, Fire}
 use Rattle.mb_carrier.proofs.ConversionLemmas.{laws, through-means}
 use Rattle.mb_carrier.proofs.GrowLemmas.{live-ends}
 use Rattle.mb_carrier.proofs.GrowSpecs.{grows}
@@ -58,41 +59,43 @@ puts-mean s moments bytes = ap denotation (so_far-in s moments bytes) ∙ sym (d
 
 -- One step, by its carrier.
 
-holds-back : (s : Spec) (puts : List Put) → suited (signs_in puts) ≡ true → AreValid (signs_in puts) →
+holds-back : (s : Spec) (puts : List Put) → IsSpec s → suited (signs_in puts) ≡ true → AreValid (signs_in puts) →
     HoldsBack s (denotation (signs_in puts)) (den s (live s puts))
-holds-back Din puts suits valid = (laws Din).means puts suits valid
-holds-back (Usb cable) puts suits valid =
+holds-back Din puts is suits valid = (laws Din).means is puts suits valid
+holds-back (Fire port) puts is suits valid = (laws (Fire port)).means is puts suits valid
+holds-back (Usb cable) puts is suits valid =
     subst (λ (less : Denotation). Lacks 2 less (denotation (signs_in puts)))
     (sym (den-so_far (Usb cable) (live (Usb cable) puts))) (lacks_two cable (signs_in puts) suits valid)
 
 one-lacks : (s : Spec) (full less : Denotation) → HoldsBack s full less → Lacks (bytes_held s) less full
 one-lacks Din full less h = subst (λ (d : Denotation). Lacks 0 less d) h (lacks-nothing less)
 one-lacks (Usb cable) full less h = h
+one-lacks (Fire port) full less h = subst (λ (d : Denotation). Lacks 0 less d) h (lacks-nothing less)
 
 -- From spec to spec.
 
-held-carried : (specs : List Spec) (last : Spec) (puts : List Put) → suited (signs_in puts) ≡ true →
-    AreValid (signs_in puts) →
+held-carried : (specs : List Spec) (last : Spec) (puts : List Put) → AreSpecs specs → IsSpec last →
+    suited (signs_in puts) ≡ true → AreValid (signs_in puts) →
     HeldBackBy (specs ++ last ∷ []) (denotation (signs_in puts)) (den last (live last (carried_so_far specs puts)))
-held-carried [] last puts suits valid = (den last (live last puts), holds-back last puts suits valid, refl)
-held-carried (s ∷ specs) last puts suits valid =
+held-carried [] last puts are is suits valid = (den last (live last puts), holds-back last puts is suits valid, refl)
+held-carried (s ∷ specs) last puts are is suits valid =
     let m : ℕ → ℕ = moments_of s 0 puts in
     let bytes : List ℕ = live s puts in
     let next : List Put = puts_so_far s m bytes in (
       den s bytes,
-      holds-back s puts suits valid,
+      holds-back s puts are.0 suits valid,
       subst
           (λ (d : Denotation). HeldBackBy (specs ++ last ∷ []) d (den last (live last (carried_so_far specs next))))
-          (puts-mean s m bytes) (held-carried specs last next (puts-suit s m bytes) (puts-valid s m bytes)),
+          (puts-mean s m bytes) (held-carried specs last next are.1 is (puts-suit s m bytes) (puts-valid s m bytes)),
     )
 
-pub so_far-held : (first : Spec) (between : List Spec) (last : Spec) (bytes : List ℕ) →
-    HeldBackBy (between ++ last ∷ []) (den first bytes) (den last (live_through first between last bytes))
-so_far-held first between last bytes =
+pub so_far-held : (first : Spec) (between : List Spec) (last : Spec) (bytes : List ℕ) → AreSpecs between →
+    IsSpec last → HeldBackBy (between ++ last ∷ []) (den first bytes) (den last (live_through first between last bytes))
+so_far-held first between last bytes are is =
     subst
     (λ (d : Denotation). HeldBackBy (between ++ last ∷ []) d (den last (live_through first between last bytes)))
     (puts-mean first none_set bytes)
-    (held-carried between last (puts_so_far first none_set bytes) (puts-suit first none_set bytes)
+    (held-carried between last (puts_so_far first none_set bytes) are is (puts-suit first none_set bytes)
     (puts-valid first none_set bytes))
 
 held-lacks : (specs : List Spec) (full less : Denotation) → HeldBackBy specs full less →
@@ -103,11 +106,11 @@ held-lacks (s ∷ specs) full less h =
     (lacks-then (most_held specs) (bytes_held s) less h.0 full (held-lacks specs h.0 less h.2)
     (one-lacks s full h.0 h.1))
 
-pub so_far-lacks : (first : Spec) (between : List Spec) (last : Spec) (bytes : List ℕ) →
-    Lacks (most_held (between ++ last ∷ [])) (den last (live_through first between last bytes)) (den first bytes)
-so_far-lacks first between last bytes =
+pub so_far-lacks : (first : Spec) (between : List Spec) (last : Spec) (bytes : List ℕ) → AreSpecs between →
+    IsSpec last → Lacks (most_held (between ++ last ∷ [])) (den last (live_through first between last bytes)) (den first bytes)
+so_far-lacks first between last bytes are is =
     held-lacks (between ++ last ∷ []) (den first bytes) (den last (live_through first between last bytes))
-    (so_far-held first between last bytes)
+    (so_far-held first between last bytes are is)
 
 -- What is written so far is a front of all, so what is known of it is a front, and means a front. No carrier is
 -- looked at.
@@ -121,10 +124,10 @@ den-front s bytes all f =
     (ap denotation (sym marks) ∙ sym (den-so_far s all))
     (front-means (marks_so_far s bytes) (known_signs k.0) (ap suited (sym marks) ∙ so_far-suits s all))
 
-pub so_far-front : (first : Spec) (between : List Spec) (last : Spec) (bytes more : List ℕ) →
-    IsMeaningFront (den last (live_through first between last bytes)) (den first (bytes ++ more))
-so_far-front first between last bytes more =
+pub so_far-front : (first : Spec) (between : List Spec) (last : Spec) (bytes more : List ℕ) → AreSpecs between →
+    IsSpec last → IsMeaningFront (den last (live_through first between last bytes)) (den first (bytes ++ more))
+so_far-front first between last bytes more are is =
     subst (λ (d : Denotation). IsMeaningFront (den last (live_through first between last bytes)) d)
-    (through-means first between last (bytes ++ more))
+    (through-means first between last (bytes ++ more) are is)
     (den-front last (live_through first between last bytes) (through first between last (bytes ++ more))
     (live-ends laws grows first between last bytes more))

@@ -7,13 +7,14 @@ use Rattle.std.specs.Prelude.{◌≡◌, ℕ, ◌+◌, List, [], ◌∷◌}
 use Rattle.mb_stream.specs.Denotation.{Denotation}
 use Rattle.mb_stream.specs.Lacking.{Lacks}
 use Rattle.mb_carrier.specs.declared.spec.Spec.{Spec}
-use Rattle.mb_carrier.specs.declared.spec.Spec.TheVariants.{Din, Usb}
+use Rattle.mb_carrier.specs.declared.spec.Spec.TheVariants.{Din, Usb, Fire}
 
--- A byte line's writer holds nothing back. A cable's holds back the bytes of a SysEx that fill no packet yet (USB
--- Device Class Definition for MIDI Devices 1.0, section 4): two at most.
+-- The writers of a byte line and of a FireWire port hold nothing back. A cable's holds back the bytes of a SysEx that
+-- fill no packet yet (USB Device Class Definition for MIDI Devices 1.0, section 4): two at most.
 abbrev pub HoldsBack : Spec → (full less : Denotation) → Type 0
 HoldsBack Din full less = less ≡ full
 HoldsBack (Usb cable) full less = Lacks 2 less full
+HoldsBack (Fire port) full less = less ≡ full
 
 abbrev pub HeldBackBy : List Spec → (full less : Denotation) → Type 0
 HeldBackBy [] full less = less ≡ full
@@ -23,6 +24,7 @@ HeldBackBy (s ∷ specs) full less = (handed_on : Denotation) × HoldsBack s ful
 abbrev pub bytes_held : Spec → ℕ
 bytes_held Din = 0
 bytes_held (Usb cable) = 2
+bytes_held (Fire port) = 0
 
 abbrev pub most_held : List Spec → ℕ
 most_held [] = 0

@@ -7,6 +7,7 @@ use Rattle.mb_stream.specs.MeaningFront.{IsMeaningFront}
 use Rattle.mb_carrier.specs.Carrier.{den}
 use Rattle.mb_carrier.specs.Conversion.{through, live_through}
 use Rattle.mb_carrier.specs.Live.{HeldBackBy, most_held}
+use Rattle.mb_carrier.specs.Word.{IsSpec, AreSpecs}
 use Rattle.mb_carrier.specs.declared.spec.Spec.{Spec}
 use Rattle.mb_carrier.proofs.ConversionLemmas.{laws}
 use Rattle.mb_carrier.proofs.GrowLemmas.{live-grows, live-ends}
@@ -45,18 +46,20 @@ live_written words limit before after faults faults_now answer c part m a =
     (λ ends. ends.0) (λ ends. ends.1) a.status (sym (ap read_part a.number) ∙ part) (a.did c m).ends
 
 pub so_far-lacks : (first : Spec) (between : List Spec) (last : Spec) (read written : List ℕ) →
+    AreSpecs between → IsSpec last →
     written ≡ live_through first between last read →
     Lacks (most_held (between ++ last ∷ [])) (den last written) (den first read)
-so_far-lacks first between last read written e =
+so_far-lacks first between last read written are is e =
     subst (λ (bytes : List ℕ). Lacks (most_held (between ++ last ∷ [])) (den last bytes) (den first read)) (sym e)
-    (live.so_far-lacks first between last read)
+    (live.so_far-lacks first between last read are is)
 
 pub so_far-held : (first : Spec) (between : List Spec) (last : Spec) (read written : List ℕ) →
+    AreSpecs between → IsSpec last →
     written ≡ live_through first between last read →
     HeldBackBy (between ++ last ∷ []) (den first read) (den last written)
-so_far-held first between last read written e =
+so_far-held first between last read written are is e =
     subst (λ (bytes : List ℕ). HeldBackBy (between ++ last ∷ []) (den first read) (den last bytes)) (sym e)
-    (live.so_far-held first between last read)
+    (live.so_far-held first between last read are is)
 
 pub so_far-stays : (first : Spec) (between : List Spec) (last : Spec) (read written : List ℕ) →
     written ≡ live_through first between last read → (more : List ℕ) →
@@ -73,8 +76,9 @@ so_far-ends first between last read written e more =
     (live-ends laws grows first between last read more)
 
 pub so_far-front : (first : Spec) (between : List Spec) (last : Spec) (read written : List ℕ) →
+    AreSpecs between → IsSpec last →
     written ≡ live_through first between last read → (more : List ℕ) →
     IsMeaningFront (den last written) (den first (read ++ more))
-so_far-front first between last read written e more =
+so_far-front first between last read written are is e more =
     subst (λ (bytes : List ℕ). IsMeaningFront (den last bytes) (den first (read ++ more))) (sym e)
-    (live.so_far-front first between last read more)
+    (live.so_far-front first between last read more are is)

@@ -57,11 +57,15 @@ returns-clause-so_far g c = λ tally first between last tells m part.
 
 pub returns-clause-lacks : goal.returns-clause-lacks
 returns-clause-lacks g c = λ tally first between last tells m part.
-    so_far-lacks first between last _ _ (returns-clause-so_far g c tally first between last tells m part)
+    let are = written_specs _ tally first between last m in
+    so_far-lacks first between last _ _ are.0 are.1
+    (returns-clause-so_far g c tally first between last tells m part)
 
 pub returns-clause-held_back : goal.returns-clause-held_back
 returns-clause-held_back g c = λ tally first between last tells m part.
-    so_far-held first between last _ _ (returns-clause-so_far g c tally first between last tells m part)
+    let are = written_specs _ tally first between last m in
+    so_far-held first between last _ _ are.0 are.1
+    (returns-clause-so_far g c tally first between last tells m part)
 
 pub returns-clause-stays : goal.returns-clause-stays
 returns-clause-stays g c = λ tally first between last tells m part.
@@ -73,7 +77,9 @@ returns-clause-ends g c = λ tally first between last tells m part.
 
 pub returns-clause-front : goal.returns-clause-front
 returns-clause-front g c = λ tally first between last tells m part.
-    so_far-front first between last _ _ (returns-clause-so_far g c tally first between last tells m part)
+    let are = written_specs _ tally first between last m in
+    so_far-front first between last _ _ are.0 are.1
+    (returns-clause-so_far g c tally first between last tells m part)
 
 pub returns-clause-tally : goal.returns-clause-tally
 returns-clause-tally g c = λ command tells m all.
