@@ -133,6 +133,7 @@ fn recordings_are_read_cut_at_each_place(rt: HostRuntime) {
         for cut in 0..=bytes.len() {
             let mut reader = BleReader::new();
             let mut text = Text::new();
+            assert!(rt; bytes.len() <= 64);
             let (front, back) = bytes.split_at(cut);
             read_piece(&mut reader, front, &mut text);
             read_piece(&mut reader, back, &mut text);
@@ -162,7 +163,7 @@ fn the_longest_packet(rt: HostRuntime) {
     let mut text = Text::new();
     read_piece(&mut reader, &[0xff, 0xff, 0x80, 0x85, 0xf0], &mut text);
     text.clear();
-    for _ in 0..130_u8 {
+    for count in 0..130_u8 {
         read_piece(&mut reader, &[0x11; 504], &mut text);
         text.clear();
     }

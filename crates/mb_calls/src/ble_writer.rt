@@ -1,30 +1,16 @@
 //! The writer of BLE-MIDI packets.
 
-ghost use Rattle.std.specs.Prelude.{◌<◌};
-
 use mb_ble::{BleWriter, MORE_ROOM};
 use mb_message::{Buf, Ev, Rt, Short};
-
-/// A note on.
-fn note<'a>(key: u8) -> Ev<'a>
-    requires { key < 128 }
-{
-    Ev::Short(Short::of(0x90, key, 0x64))
-}
-
-/// A real-time message.
-fn clock<'a>() -> Ev<'a> {
-    Ev::Rt(Rt::new(0xf8).unwrap())
-}
 
 #[test]
 fn a_status_is_left_out_within_a_packet(rt: HostRuntime) {
     let mut writer = BleWriter::new(20);
     let mut out = Buf::new();
     assert!(rt; writer.size() == 20);
-    writer.put(0, note(0x3c), &mut out);
-    writer.put(1, clock(), &mut out);
-    writer.put(1, note(0x40), &mut out);
+    writer.put(0, Ev::Short(Short::of(0x90, 0x3c, 0x64)), &mut out);
+    writer.put(1, Ev::Rt(Rt::new(0xf8).unwrap()), &mut out);
+    writer.put(1, Ev::Short(Short::of(0x90, 0x40, 0x64)), &mut out);
     assert!(rt; out.is_empty());
     writer.finish(&mut out);
     assert!(rt;
@@ -55,9 +41,9 @@ fn a_packet_of_the_least_size(rt: HostRuntime) {
 fn stamps_128_apart_stand_in_two_packets(rt: HostRuntime) {
     let mut writer = BleWriter::new(20);
     let mut out = Buf::new();
-    writer.put(0, clock(), &mut out);
-    writer.put(127, clock(), &mut out);
-    writer.put(255, clock(), &mut out);
+    writer.put(0, Ev::Rt(Rt::new(0xf8).unwrap()), &mut out);
+    writer.put(127, Ev::Rt(Rt::new(0xf8).unwrap()), &mut out);
+    writer.put(255, Ev::Rt(Rt::new(0xf8).unwrap()), &mut out);
     writer.finish(&mut out);
     assert!(rt;
         out.as_slice() == [0, 5, 0x80, 0x80, 0xf8, 0xff, 0xf8, 0, 3, 0x81, 0xff, 0xf8].as_slice()
@@ -68,10 +54,10 @@ fn stamps_128_apart_stand_in_two_packets(rt: HostRuntime) {
 fn a_second_fall_begins_a_packet(rt: HostRuntime) {
     let mut writer = BleWriter::new(20);
     let mut out = Buf::new();
-    writer.put(127, clock(), &mut out);
-    writer.put(128, clock(), &mut out);
-    writer.put(255, clock(), &mut out);
-    writer.put(256, clock(), &mut out);
+    writer.put(127, Ev::Rt(Rt::new(0xf8).unwrap()), &mut out);
+    writer.put(128, Ev::Rt(Rt::new(0xf8).unwrap()), &mut out);
+    writer.put(255, Ev::Rt(Rt::new(0xf8).unwrap()), &mut out);
+    writer.put(256, Ev::Rt(Rt::new(0xf8).unwrap()), &mut out);
     writer.finish(&mut out);
     assert!(rt;
         out.as_slice()
@@ -86,13 +72,10 @@ fn a_second_fall_begins_a_packet(rt: HostRuntime) {
 fn the_13_bits_go_round_in_a_packet(rt: HostRuntime) {
     let mut writer = BleWriter::new(512);
     let mut out = Buf::new();
-    writer.put(8191, clock(), &mut out);
-    writer.flush(&mut out);
-    out.clear();
-    writer.put(8191, clock(), &mut out);
-    out.clear();
-    writer.put(8192, clock(), &mut out);
-    out.clear();
+    writer.put(8191, Ev::Rt(Rt::new(0xf8).unwrap()), &mut out);
+    assert!(rt; out.is_empty());
+    writer.put(8192, Ev::Rt(Rt::new(0xf8).unwrap()), &mut out);
+    assert!(rt; out.is_empty());
     writer.finish(&mut out);
     assert!(rt; out.as_slice() == [0, 5, 0xbf, 0xff, 0xf8, 0x80, 0xf8].as_slice());
 }
@@ -103,10 +86,10 @@ fn a_flush_ends_the_packet_and_its_running_status(rt: HostRuntime) {
     let mut out = Buf::new();
     writer.flush(&mut out);
     assert!(rt; out.is_empty());
-    writer.put(2, note(0x3c), &mut out);
+    writer.put(2, Ev::Short(Short::of(0x90, 0x3c, 0x64)), &mut out);
     writer.flush(&mut out);
     writer.flush(&mut out);
-    writer.put(2, note(0x40), &mut out);
+    writer.put(2, Ev::Short(Short::of(0x90, 0x40, 0x64)), &mut out);
     writer.finish(&mut out);
     writer.finish(&mut out);
     assert!(rt;
@@ -122,12 +105,12 @@ fn a_flush_ends_the_packet_and_its_running_status(rt: HostRuntime) {
 fn an_abort_writes_nothing_and_a_status_stands_behind_it(rt: HostRuntime) {
     let mut writer = BleWriter::new(20);
     let mut out = Buf::new();
-    writer.put(0, note(0x3c), &mut out);
+    writer.put(0, Ev::Short(Short::of(0x90, 0x3c, 0x64)), &mut out);
     writer.put(0, Ev::Open, &mut out);
     writer.put(0, Ev::Run(&[1]), &mut out);
     writer.put(0, Ev::Abort, &mut out);
     assert!(rt; !writer.in_sysex());
-    writer.put(0, note(0x40), &mut out);
+    writer.put(0, Ev::Short(Short::of(0x90, 0x40, 0x64)), &mut out);
     writer.finish(&mut out);
     assert!(rt;
         out.as_slice()
@@ -148,7 +131,7 @@ fn a_sysex_goes_on_in_the_next_packet(rt: HostRuntime) {
     writer.put(4104, Ev::Open, &mut out);
     writer.put(4104, Ev::Run(REPLY), &mut out);
     writer.put(4104, Ev::End, &mut out);
-    writer.put(4105, clock(), &mut out);
+    writer.put(4105, Ev::Rt(Rt::new(0xf8).unwrap()), &mut out);
     writer.finish(&mut out);
     assert!(rt; out.len() <= 20 + MORE_ROOM);
     assert!(rt;
