@@ -1,7 +1,8 @@
 // The same work as `midibridge convert`, from a byte line or cable 0 to cable 0, cable 1 or a byte line, and between a byte line and
-// FireWire's port 0, in plain C and with the same reads: read at most 512 bytes, convert them, write all that they give, read on.
-// bench/bridge.py compiles and times it. Its words are `din usb`, `din din`, `usb usb`, `usb din`, `din fw` and `fw din`; a cable that
-// is written after one is cable 1.
+// FireWire's port 0, in plain C and with the same reads and writes: read at most 512 bytes, convert them, write all that they give,
+// read on; to FireWire, where a byte is a packet, write whenever fewer than 126 of 1,024 bytes are free. bench/bridge.py compiles and
+// times it. Its words are `din usb`, `din din`, `usb usb`, `usb din`, `din fw` and `fw din`; a cable that is written after one is
+// cable 1.
 #include <string.h>
 #include <unistd.h>
 
@@ -26,7 +27,7 @@ struct state {
   byte own;                     // bytes of the quadlet that the port still carries
 };
 
-static byte out[65536];
+static byte out[4096];
 
 static inline void put4(struct state *s, byte a, byte b, byte c, byte d) {
   byte *to = out + s->used;
@@ -72,6 +73,16 @@ static inline void byte_din(struct state *s, byte b) { out[s->used++] = b; }
 static inline void start_din(struct state *s) { s->written = 0, byte_din(s, 0xf0); }
 static inline void end_din(struct state *s) { byte_din(s, 0xf7); }
 static inline void abort_din(struct state *s) { (void)s; }
+
+static int write_out(struct state *s) {
+  for (size_t done = 0; done < s->used;) {
+    ssize_t count = write(1, out + done, s->used - done);
+    if (count <= 0) return 0;
+    done += (size_t)count;
+  }
+  s->used = 0;
+  return 1;
+}
 
 // The same as FireWire packets of port 0: one a byte, the byte in the first of eight blocks, and no status left out.
 static const byte packet[42] = {0, 40, 0, 1, 0, 0, 0x90, 2, 0xff, 0xff, 0x81, 0, 0, 0, 0x80, 0, 0, 0, 0x80, 0, 0, 0,
@@ -127,7 +138,16 @@ static inline void end_fire(struct state *s) { byte_fire(s, 0xf7); }
 
 CONVERT(to_usb, message_usb, real_time_usb, start_usb, byte_usb, end_usb, abort_usb)
 CONVERT(to_din, message_din, byte_din, start_din, byte_din, end_din, abort_din)
-CONVERT(to_fire, message_fire, byte_fire, start_fire, byte_fire, end_fire, abort_din)
+
+static void to_fire(struct state *kept, const byte *piece, size_t count) {
+  struct state now = *kept, *s = &now;
+  for (size_t i = 0; i < count; i++) {
+    byte b = piece[i];
+    TAKE(s, b, message_fire, byte_fire, start_fire, byte_fire, end_fire, abort_din)
+    if (s->used > 1024 - 126 && !write_out(s)) _exit(4);
+  }
+  *kept = now;
+}
 
 // How many bytes of a packet its number uses, and the bytes of cable 0's packets as a byte line.
 static const byte uses[16] = {0, 0, 2, 3, 3, 1, 2, 3, 3, 3, 3, 3, 2, 2, 3, 1};
@@ -204,16 +224,6 @@ static void fire_to_din(struct state *kept, const byte *piece, size_t count) {
     }
   }
   *kept = now;
-}
-
-static int write_out(struct state *s) {
-  for (size_t done = 0; done < s->used;) {
-    ssize_t count = write(1, out + done, s->used - done);
-    if (count <= 0) return 0;
-    done += (size_t)count;
-  }
-  s->used = 0;
-  return 1;
 }
 
 int main(int count, char **words) {

@@ -8,7 +8,7 @@ ghost use Rattle.mb_fire.specs.Passed.{PassedOver};
 use crate::blocks::{behind_label, behind_quiet, is_passed};
 use crate::due::Due;
 use crate::place::{BegunHeader, Place};
-use crate::under::Packet;
+use crate::under::{Packet, is_of};
 
 /// Passes over what stands at the front of the input, up to a byte that is the port's or of which something is
 /// remarked. What is left is answered. `None`, and nothing is passed over, where no such bytes stand there: then one
@@ -20,6 +20,9 @@ pub fn pass_whole<'a>(own: u8, packet: &mut Packet, input: &'a [u8]) -> Option<&
     ensures fewer { IfSome result (λ left. length left.now < length input.now) }
     ensures same { IfNone result (packet.new ≡ packet.old) }
 {
+    if is_of(packet.under, own) {
+        return None;
+    }
     let blocks = pass_header(packet, input);
     let quadlets = pass_rest(packet, blocks);
     let last = pass_quiet(own, packet, quadlets);
