@@ -5,6 +5,7 @@ pub mod Fronts
 pub mod GrowLemmas
 pub mod GrowSpecs
 pub mod LineLemmas
+mod LiveExamples
 pub mod LiveLemmas
 pub mod ListLemmas
 pub mod NoteLemmas
