@@ -6,6 +6,7 @@ pub mod Fronts
 pub mod GrowLemmas
 pub mod GrowSpecs
 pub mod LineLemmas
+mod LiveExamples
 pub mod LiveLemmas
 pub mod ListLemmas
 pub mod NoteLemmas
