@@ -11,7 +11,8 @@ use Rattle.mb_stream.specs.Told.{Known, known, Marks, Notes, stray, sysex_byte, 
 use Rattle.mb_stream.specs.Order.{not_after, put_in, in_order}
 use Rattle.mb_stream.specs.Reading.{so_far}
 use Rattle.mb_stream.specs.Working.{pair_news, first_one_news, first_two_news, data_news_by, data_news, news_from, group_after, RisesFrom}
-use Rattle.mb_stream.proofs.OrderLemmas.{Each, Each-in_order, put_in-first}
+use Rattle.mb_stream.specs.Order.{Each}
+use Rattle.mb_stream.proofs.OrderLemmas.{Each-in_order, put_in-first}
 use Rattle.mb_stream.proofs.NewsLaw as law
 use Rattle.mb_din.specs.Reader.{Stands, RisesTo}
 use Rattle.mb_din.specs.State.{State}

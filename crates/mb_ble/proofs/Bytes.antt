@@ -6,7 +6,8 @@ use Rattle.mb_ble.proofs.Base.{last_of-append}
 use Rattle.mb_din.specs.Reader.{Stands}
 use Rattle.mb_message.specs.Front.{IsFront}
 use Rattle.mb_message.specs.Bytes.{is_channel, data_length, is_data, is_realtime}
-use Rattle.mb_stream.proofs.OrderLemmas.{Each, Each-append}
+use Rattle.mb_stream.specs.Order.{Each}
+use Rattle.mb_stream.proofs.OrderLemmas.{Each-append}
 use Rattle.mb_stream.specs.Groups.{Group, silent, begun, last_of}
 use Rattle.mb_stream.specs.Payload.{Spot, Entry, Heard, Silent}
 use Rattle.mb_stream.specs.Reading.{part_of, so_far}

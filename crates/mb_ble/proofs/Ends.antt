@@ -10,7 +10,8 @@ use Rattle.mb_din.specs.Reader.{Stands}
 use Rattle.mb_frames.proofs.Steps.{rest_parts-zero}
 use Rattle.mb_frames.specs.Reading.{is_at_end, from, Place, Between, High, Within}
 use Rattle.mb_message.specs.Bytes.{is_channel}
-use Rattle.mb_stream.proofs.OrderLemmas.{Each, Each-append}
+use Rattle.mb_stream.specs.Order.{Each}
+use Rattle.mb_stream.proofs.OrderLemmas.{Each-append}
 use Rattle.mb_stream.specs.Groups.{Group, is_sysex, last_of}
 use Rattle.mb_stream.specs.Payload.{Entry}
 use Rattle.mb_stream.specs.Reading.{Part, part_of, so_far}

@@ -6,7 +6,8 @@ use Rattle.mb_message.specs.declared.note.NoteKind.TheVariants.{StrayEnd, Undefi
 use Rattle.mb_ble.proofs.Base.{Climb, climb-data, so_far-append, rises-to, rises-from, cancel}
 use Rattle.mb_din.specs.Reader.{RisesTo}
 use Rattle.mb_message.specs.Bytes.{is_data, is_realtime, is_undefined_realtime, is_channel, data_length}
-use Rattle.mb_stream.proofs.OrderLemmas.{Each, Each-append}
+use Rattle.mb_stream.specs.Order.{Each}
+use Rattle.mb_stream.proofs.OrderLemmas.{Each-append}
 use Rattle.mb_stream.specs.Groups.{Group, is_sysex, last_of}
 use Rattle.mb_stream.specs.Payload.{Spot, Entry, Heard, Silent}
 use Rattle.mb_stream.specs.Reading.{part_of, so_far}

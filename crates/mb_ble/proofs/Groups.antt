@@ -4,7 +4,7 @@ use Rattle.std.specs.Prelude.{if◌then◌else◌, ◌||◌, ◌⊎◌}
 use Rattle.mb_ble.proofs.Base.{cancel, last_of-append, told-all}
 use Rattle.mb_din.specs.Reader.{Stands, IsAhead, DinGoes}
 use Rattle.mb_din.specs.State.{State, state_of}
-use Rattle.mb_stream.proofs.OrderLemmas.{Each}
+use Rattle.mb_stream.specs.Order.{Each}
 use Rattle.mb_stream.specs.Groups.{last_of}
 use Rattle.mb_stream.specs.Payload.{Spot, Entry, Heard, Silent, heard_from}
 use Rattle.mb_stream.specs.Reading.{so_far}

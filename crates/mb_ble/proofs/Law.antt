@@ -6,7 +6,8 @@ use Rattle.mb_ble.proofs.Base.{climb-data, climb-at_status, Climb-lower}
 use Rattle.mb_frames.specs.Counting.{counted_parts, rest_parts}
 use Rattle.mb_frames.proofs.Steps.{parts-counted}
 use Rattle.mb_message.specs.Bytes.{is_data, is_realtime}
-use Rattle.mb_stream.proofs.OrderLemmas.{Each, Each-append}
+use Rattle.mb_stream.specs.Order.{Each}
+use Rattle.mb_stream.proofs.OrderLemmas.{Each-append}
 use Rattle.mb_stream.specs.Groups.{Group, is_sysex, last_of}
 use Rattle.mb_stream.specs.Order.{in_order}
 use Rattle.mb_stream.specs.Payload.{Spot}

@@ -1,6 +1,7 @@
 -- A run that was handed to the reader of groups.
 use Rattle.std.proofs.Common.{◌≡◌, ℕ, zero, suc, ◌+◌, ◌-◌, ◌*◌, ◌<◌, ◌≤◌, Bool, true, false, Option, Some, None, List, [], ◌∷◌, ◌++◌, length, map, refl, ap, ap₂, sym, subst, ◌∙◌, arith, append_assoc, append-nil, inl, inr}
 use Rattle.std.specs.Prelude.{if◌then◌else◌, nat_lt, ◌==◌, take, drop, IfNone, IfSome, OnSome}
+use Rattle.mb_message.specs.Bytes.{is_status}
 use Rattle.mb_message.specs.declared.event.Ev.TheVariants as ev
 use Rattle.mb_message.specs.declared.event.Seen.{Seen}
 use Rattle.mb_message.specs.declared.event.Seen.TheVariants as seen
@@ -266,10 +267,10 @@ run_falls r was mid now input handed left final taken len used progress none is 
 -- what a data byte breaks: nothing
 low-status : (xs : List ℕ) → Low xs → StatusNext xs → ⊥
 low-status [] l s = s
-low-status (x ∷ xs) l s = no (sym l.0 ∙ s)
+low-status (x ∷ xs) l s = no-both x l.0 s
   where
-    no : true ≡ false → ⊥
-    no e = cc
+    no-both : (b : ℕ) → nat_lt b 128 ≡ true → is_status b ≡ true → ⊥
+    no-both b low status = grind (arith, nat_tests)
 
 pub run_before : {R G : Type 0} (input handed left taken : List ℕ) (len : ℕ) (ts : List Told) → handed ≡ taken ++ left → handed ≡ take len input → take len input ≡ data_front input → (breaks ts ≡ true → StatusNext left × R) → breaks ts ≡ true → G
 run_before input handed left taken len ts f piece e h b = absurd (low-status left (low-back taken left (subst Low (sym (piece ∙ e) ∙ f) (low-data input))) (h b).0)

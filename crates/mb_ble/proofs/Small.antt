@@ -5,7 +5,8 @@ use Rattle.mb_clock.specs.Clock.{begun, stamped}
 use Rattle.mb_din.specs.Reader.{Stands}
 use Rattle.mb_message.specs.Front.{IsFront}
 use Rattle.mb_message.specs.Bytes.{is_channel}
-use Rattle.mb_stream.proofs.OrderLemmas.{Each, Each-append}
+use Rattle.mb_stream.specs.Order.{Each}
+use Rattle.mb_stream.proofs.OrderLemmas.{Each-append}
 use Rattle.mb_stream.specs.Groups.{last_of}
 use Rattle.mb_stream.specs.Payload.{Entry}
 use Rattle.mb_stream.specs.Reading.{part_of, so_far}

@@ -8,7 +8,8 @@ use Rattle.mb_din.specs.State.{State, state_of}
 use Rattle.mb_din.specs.Turn.{data_front}
 use Rattle.mb_message.specs.Front.{IsFront}
 use Rattle.mb_message.specs.Bytes.{is_channel, data_length, is_data, is_realtime}
-use Rattle.mb_stream.proofs.OrderLemmas.{Each, Each-append}
+use Rattle.mb_stream.specs.Order.{Each}
+use Rattle.mb_stream.proofs.OrderLemmas.{Each-append}
 use Rattle.mb_stream.specs.Groups.{Group, is_sysex, last_of, longer}
 use Rattle.mb_stream.specs.Payload.{Spot, Entry, Heard, Silent, heard_from}
 use Rattle.mb_stream.specs.Reading.{so_far}

@@ -104,15 +104,17 @@ items-front None (AbortSign ∷ xs) ys s = absurd (false≢true s.0)
 items-front (Some ds) (AbortSign ∷ xs) ys s =
     one-item (Broken ds) (items_from None xs) (items_from None (xs ++ ys)) (items-front None xs ys s.1)
 
-realtimes-front : (n : ℕ) (xs ys : List Sign) → IsFront (realtimes_from n xs) (realtimes_from n (xs ++ ys))
-realtimes-front n [] ys = (realtimes_from n ys, refl)
-realtimes-front n (ShortSign t a b ∷ xs) ys = realtimes-front (suc n) xs ys
-realtimes-front n (EndSign ∷ xs) ys = realtimes-front (suc n) xs ys
-realtimes-front n (RtSign b ∷ xs) ys =
-    let f = realtimes-front n xs ys in (f.0, ap (λ z. record { byte = b; after = n } ∷ z) f.1)
-realtimes-front n (OpenSign ∷ xs) ys = realtimes-front n xs ys
-realtimes-front n (ByteSign b ∷ xs) ys = realtimes-front n xs ys
-realtimes-front n (AbortSign ∷ xs) ys = realtimes-front n xs ys
+realtimes-front : (o : Bool) (n : ℕ) (xs ys : List Sign) →
+    IsFront (realtimes_from o n xs) (realtimes_from o n (xs ++ ys))
+realtimes-front o n [] ys = (realtimes_from o n ys, refl)
+realtimes-front o n (ShortSign t a b ∷ xs) ys = realtimes-front o (suc n) xs ys
+realtimes-front false n (EndSign ∷ xs) ys = realtimes-front false n xs ys
+realtimes-front true n (EndSign ∷ xs) ys = realtimes-front false (suc n) xs ys
+realtimes-front o n (RtSign b ∷ xs) ys =
+    let f = realtimes-front o n xs ys in (f.0, ap (λ z. record { byte = b; after = n } ∷ z) f.1)
+realtimes-front o n (OpenSign ∷ xs) ys = realtimes-front true n xs ys
+realtimes-front o n (ByteSign b ∷ xs) ys = realtimes-front o n xs ys
+realtimes-front o n (AbortSign ∷ xs) ys = realtimes-front false n xs ys
 
 pub front-means : (xs ys : List Sign) → suited (xs ++ ys) ≡ true →
     IsMeaningFront (denotation xs) (denotation (xs ++ ys))
@@ -125,7 +127,7 @@ front-means xs ys s =
       front_is = f.front_is;
       whole_is = f.whole_is;
       begins = f.begins;
-      realtimes = realtimes-front 0 xs ys;
+      realtimes = realtimes-front false 0 xs ys;
     }
 
 -- The end tells of a broken SysEx, which means nothing new.
@@ -143,17 +145,18 @@ items-abort (Some ds) (EndSign ∷ ms) = ap (λ z. Syx ds ∷ z) (items-abort No
 items-abort None (AbortSign ∷ ms) = items-abort None ms
 items-abort (Some ds) (AbortSign ∷ ms) = ap (λ z. Broken ds ∷ z) (items-abort None ms)
 
-realtimes-abort : (n : ℕ) (ms : List Sign) → realtimes_from n (ms ++ AbortSign ∷ []) ≡ realtimes_from n ms
-realtimes-abort n [] = refl
-realtimes-abort n (ShortSign s a b ∷ ms) = realtimes-abort (suc n) ms
-realtimes-abort n (EndSign ∷ ms) = realtimes-abort (suc n) ms
-realtimes-abort n (RtSign b ∷ ms) = ap (λ z. record { byte = b; after = n } ∷ z) (realtimes-abort n ms)
-realtimes-abort n (OpenSign ∷ ms) = realtimes-abort n ms
-realtimes-abort n (ByteSign b ∷ ms) = realtimes-abort n ms
-realtimes-abort n (AbortSign ∷ ms) = realtimes-abort n ms
+realtimes-abort : (o : Bool) (n : ℕ) (ms : List Sign) → realtimes_from o n (ms ++ AbortSign ∷ []) ≡ realtimes_from o n ms
+realtimes-abort o n [] = refl
+realtimes-abort o n (ShortSign s a b ∷ ms) = realtimes-abort o (suc n) ms
+realtimes-abort false n (EndSign ∷ ms) = realtimes-abort false n ms
+realtimes-abort true n (EndSign ∷ ms) = realtimes-abort false (suc n) ms
+realtimes-abort o n (RtSign b ∷ ms) = ap (λ z. record { byte = b; after = n } ∷ z) (realtimes-abort o n ms)
+realtimes-abort o n (OpenSign ∷ ms) = realtimes-abort true n ms
+realtimes-abort o n (ByteSign b ∷ ms) = realtimes-abort o n ms
+realtimes-abort o n (AbortSign ∷ ms) = realtimes-abort false n ms
 
 means-abort : (ms : List Sign) → denotation (ms ++ AbortSign ∷ []) ≡ denotation ms
-means-abort ms = ap₂ (λ i r. record { items = i; realtimes = r }) (items-abort None ms) (realtimes-abort 0 ms)
+means-abort ms = ap₂ (λ i r. record { items = i; realtimes = r }) (items-abort None ms) (realtimes-abort false 0 ms)
 
 pub means-end : (ms : List Sign) (g : Group) → denotation (ms ++ told_signs (at_end g)) ≡ denotation ms
 means-end ms g = by (begun_at g) (is_sysex g)

@@ -269,30 +269,32 @@ items-lack None (AbortSign ∷ xs) ys s h = absurd (false≢true s.0)
 items-lack (Some ds) (AbortSign ∷ xs) ys s h =
     one-item (Broken ds) (items_from None xs) (items_from None (xs ++ ys)) (full_bytes ys) (items-lack None xs ys s.1 h)
 
-no-realtimes : (n : ℕ) (ms : List Sign) → Passable ms → realtimes_from n ms ≡ []
-no-realtimes n [] h = refl
-no-realtimes n (OpenSign ∷ ms) h = no-realtimes n ms h
-no-realtimes n (ByteSign b ∷ ms) h = no-realtimes n ms h
-no-realtimes n (AbortSign ∷ ms) h = no-realtimes n ms h
-no-realtimes n (ShortSign s a b ∷ ms) h = absurd h
-no-realtimes n (RtSign b ∷ ms) h = absurd h
-no-realtimes n (EndSign ∷ ms) h = absurd h
+no-realtimes : (o : Bool) (n : ℕ) (ms : List Sign) → Passable ms → realtimes_from o n ms ≡ []
+no-realtimes o n [] h = refl
+no-realtimes o n (OpenSign ∷ ms) h = no-realtimes true n ms h
+no-realtimes o n (ByteSign b ∷ ms) h = no-realtimes o n ms h
+no-realtimes o n (AbortSign ∷ ms) h = no-realtimes false n ms h
+no-realtimes o n (ShortSign s a b ∷ ms) h = absurd h
+no-realtimes o n (RtSign b ∷ ms) h = absurd h
+no-realtimes o n (EndSign ∷ ms) h = absurd h
 
-realtimes-same : (n : ℕ) (xs ys : List Sign) → Passable ys → realtimes_from n xs ≡ realtimes_from n (xs ++ ys)
-realtimes-same n [] ys h = sym (no-realtimes n ys h)
-realtimes-same n (ShortSign s a b ∷ xs) ys h = realtimes-same (suc n) xs ys h
-realtimes-same n (EndSign ∷ xs) ys h = realtimes-same (suc n) xs ys h
-realtimes-same n (RtSign b ∷ xs) ys h = ap (λ z. record { byte = b; after = n } ∷ z) (realtimes-same n xs ys h)
-realtimes-same n (OpenSign ∷ xs) ys h = realtimes-same n xs ys h
-realtimes-same n (ByteSign b ∷ xs) ys h = realtimes-same n xs ys h
-realtimes-same n (AbortSign ∷ xs) ys h = realtimes-same n xs ys h
+realtimes-same : (o : Bool) (n : ℕ) (xs ys : List Sign) → Passable ys →
+    realtimes_from o n xs ≡ realtimes_from o n (xs ++ ys)
+realtimes-same o n [] ys h = sym (no-realtimes o n ys h)
+realtimes-same o n (ShortSign s a b ∷ xs) ys h = realtimes-same o (suc n) xs ys h
+realtimes-same false n (EndSign ∷ xs) ys h = realtimes-same false n xs ys h
+realtimes-same true n (EndSign ∷ xs) ys h = realtimes-same false (suc n) xs ys h
+realtimes-same o n (RtSign b ∷ xs) ys h = ap (λ z. record { byte = b; after = n } ∷ z) (realtimes-same o n xs ys h)
+realtimes-same o n (OpenSign ∷ xs) ys h = realtimes-same true n xs ys h
+realtimes-same o n (ByteSign b ∷ xs) ys h = realtimes-same o n xs ys h
+realtimes-same o n (AbortSign ∷ xs) ys h = realtimes-same false n xs ys h
 
 pub lacks-marks : (n : ℕ) (xs ys : List Sign) → suited (xs ++ ys) ≡ true → Passable ys →
     length (full_bytes ys) ≤ n → Lacks n (denotation xs) (denotation (xs ++ ys))
 lacks-marks n xs ys s h few =
     let l = items-lack None xs ys (Suited-from_suited (xs ++ ys) s) h in
     record {
-      realtimes = realtimes-same 0 xs ys h;
+      realtimes = realtimes-same false 0 xs ys h;
       items = l.items;
       broken_less = l.broken_less;
       broken_full = l.broken_full;
