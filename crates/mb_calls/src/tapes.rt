@@ -124,7 +124,9 @@ fn fault_again(rt: HostRuntime) {
     let first = tape.next(&mut rest);
     let left = rest.len();
     let second = tape.next(&mut rest);
-    assert!(rt; first == Err(TapeFault::Magic) && second == first && rest.len() == left && left == 1);
+    assert!(rt;
+        first == Err(TapeFault::Magic) && second == first && rest.len() == left && left == 1
+    );
 }
 
 #[test]
@@ -144,6 +146,8 @@ fn gathered_bytes(rt: HostRuntime) {
     gather.put(0, 0x3c, &mut out);
     gather.put(2000, 0xf8, &mut out);
     gather.finish(&mut out);
-    assert!(rt; out.as_slice() ==
-        b"\0\0\0\0\0\0\0\0\0\0\x02\x90\x3c\0\0\0\0\0\0\x07\xd0\0\0\x01\xf8".as_slice());
+    assert!(rt;
+        out.as_slice()
+            == b"\0\0\0\0\0\0\0\0\0\0\x02\x90\x3c\0\0\0\0\0\0\x07\xd0\0\0\x01\xf8".as_slice()
+    );
 }
