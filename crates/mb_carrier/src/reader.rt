@@ -232,7 +232,8 @@ fn next_seen<'a>(carrier: &mut ReaderOf, input: &mut &'a [u8]) -> Option<Seen<'a
     ensures before { breaks (answer result) ≡ true → BrokenNextBy carrier.new input.new.now ×
         ReaderRestsBy carrier.new }
     ensures progress { OnSome result
-        (2 * length input.new.now + reader_owed_by carrier.new < 2 * length input.old.now + reader_owed_by carrier.old) }
+        (2 * length input.new.now + reader_owed_by carrier.new <
+        2 * length input.old.now + reader_owed_by carrier.old) }
 {
     match carrier {
         ReaderOf::Din(reader) => EventReader::next(reader, input),

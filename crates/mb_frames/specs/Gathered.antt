@@ -1,5 +1,5 @@
--- A tape of bytes with moments. Each longest stretch of one moment is cut from the left into pieces of at most 255 bytes,
--- each a record of track 0.
+-- A tape of bytes with moments. Each longest stretch of one moment is cut from the left into pieces of at most 255
+-- bytes, each a record of track 0.
 --
 --   Timed                  a byte and its moment, in microseconds
 --   stretches given        the bytes of each longest stretch, with its moment

@@ -1,6 +1,6 @@
--- A tape in the second form: its magic once it stands whole, each whole header in the second form, each byte of a record
--- as it is. A tape in the first form has its moments in milliseconds, and is of track 0. What isn't whole yet gives nothing,
--- nor does what follows a fault.
+-- A tape in the second form: its magic once it stands whole, each whole header in the second form, each byte of a
+-- record as it is. A tape in the first form has its moments in milliseconds, and is of track 0. What isn't whole yet
+-- gives nothing, nor does what follows a fault.
 --
 --   tape2 bytes                          the same tape in the second form
 --   record_in_microseconds second r      a record of a tape of either form, as the second has it

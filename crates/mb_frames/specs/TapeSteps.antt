@@ -11,15 +11,15 @@
 --   behind_records second rs     where a tape stands behind these records
 use Rattle.std.specs.Prelude.{ℕ, zero, suc, ◌-◌, ◌==◌, Bool, false, not, if◌then◌else◌, List, [], ◌∷◌, ◌++◌}
 use Rattle.std.specs.Prelude.{length, Option, Some, None}
-use Rattle.mb_frames.specs.Tapes.{Record, RecordPart, RecordBegin, RecordByte, RecordEnd, Header, header_size, header_of}
-use Rattle.mb_frames.specs.Tapes.{header_fault, fits_magic, microseconds, TapeEnd, Whole, Inside, Faulty}
+use Rattle.mb_frames.specs.Tapes.{Record, RecordPart, RecordBegin, RecordByte, RecordEnd, Header, header_size}
+use Rattle.mb_frames.specs.Tapes.{header_of, header_fault, fits_magic, microseconds, TapeEnd, Whole, Inside, Faulty}
 use Rattle.mb_frames.specs.declared.tape.TapeFault.{TapeFault}
 use Rattle.mb_frames.specs.declared.tape.TapeFault.TheVariants as fault
 use Rattle.mb_frames.specs.declared.tape.Place.{Place}
 use Rattle.mb_frames.specs.declared.tape.Place.TheVariants as place
 
--- In its magic, in a header, in a record of which so many bytes are to come, or behind a fault; the bytes of the magic or
--- header so far; whether it is of the second form; moment and track of the last record.
+-- In its magic, in a header, in a record of which so many bytes are to come, or behind a fault; the bytes of the magic
+-- or header so far; whether it is of the second form; moment and track of the last record.
 pub record TapeState : Type 0 where
   pub place : Place
   pub head : List ℕ

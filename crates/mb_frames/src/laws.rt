@@ -60,8 +60,8 @@ pub fn tapes_are_records()
         (tape_read (tape second records)).ending ≡ Whole }
 {}
 
-/// However a tape was cut: what is read of it is all of its parts where no more is to be told, and how it ends is how the
-/// bytes that were taken do.
+/// However a tape was cut: what is read of it is all of its parts where no more is to be told, and how it ends is how
+/// the bytes that were taken do.
 pub fn any_tape_cutting()
     ensures all { (bytes : List ℕ) (t : TapeState) (so_far : List RecordPart) → TapeStands t bytes so_far →
         parts_from t [] ≡ [] → so_far ≡ tape_parts bytes }

@@ -96,10 +96,10 @@ impl Tape {
         }
     }
 
-    /// The next part, whose bytes it takes from the front of the input. `Begin` comes once a header was taken, `End` after
-    /// the last byte of a record; `None` exactly where the input is used up and all parts of it are told. A fault comes at
-    /// the first byte that differs from both magics, or at the last byte of a header; every later call answers the same
-    /// one, and takes nothing.
+    /// The next part, whose bytes it takes from the front of the input. `Begin` comes once a header was taken, `End`
+    /// after the last byte of a record; `None` exactly where the input is used up and all parts of it are told. A fault
+    /// comes at the first byte that differs from both magics, or at the last byte of a header; every later call answers
+    /// the same one, and takes nothing.
     pub fn next<'a>(&mut self, input: &mut &'a [u8]) -> Result<Option<TapePart<'a>>, TapeFault>
         ensures step { TapeTakes self.old self.new input.old.now input.new.now (tape_told result) }
 

@@ -1,6 +1,6 @@
 -- How the meaning of what is written so far may lag behind that of all (MIDI 1.0 Detailed Specification 4.2, "System
--- Exclusive Messages"): bytes of SysEx at its end may be missing. That SysEx without an end, broken off or open yet, are
--- looked at as one row of bytes is the project's own. Data bytes are below F0, so a row says which SysEx has which.
+-- Exclusive Messages"): bytes of SysEx at its end may be missing. That SysEx without an end, broken off or open yet,
+-- are looked at as one row of bytes is the project's own. Data bytes are below F0, so a row says which SysEx has which.
 --
 --   row broken           the bytes of SysEx without an end, each from its F0 on, one behind the other
 --   Lacks n less full    the same, but that at most n bytes are missing at the end of the row with which the items end
