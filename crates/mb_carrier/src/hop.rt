@@ -46,6 +46,7 @@ pub fn fill_hop<'a>(
         ReaderOf::Din(reader) => fill_from(reader, writer, apart, piece, held),
         ReaderOf::Usb(reader) => fill_from(reader, writer, apart, piece, held),
         ReaderOf::Fire(reader) => fill_from(reader, writer, apart, piece, held),
+        ReaderOf::Ble(reader) => fill_from(reader, writer, apart, piece, held),
     }
 }
 
@@ -79,5 +80,6 @@ fn fill_from<'a, R: EventReader>(
         WriterOf::Din(writer) => fill_pair(reader, writer, apart, piece, held),
         WriterOf::Usb(writer) => fill_pair(reader, writer, apart, piece, held),
         WriterOf::Fire(writer) => fill_pair(reader, writer, apart, piece, held),
+        WriterOf::Ble(writer) => fill_pair(reader, writer, apart, piece, held),
     }
 }
