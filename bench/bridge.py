@@ -30,16 +30,21 @@ COMMANDS = {
     "convert usb:0 usb:1": ("usb", ["usb", "usb"]),
     "convert din fw:0": ("din", ["din", "fw"]),
     "convert fw:0 din": ("fw", ["fw", "din"]),
+    "convert din ble": ("din", ["din", "ble"]),
+    "convert ble din": ("ble", ["ble", "din"]),
+    "convert ble ble": ("ble", ["ble", "ble"]),
     "check din": ("din", None),
     "trace din": ("din", None),
     "check usb:0": ("usb", None),
     "trace usb:0": ("usb", None),
     "check fw:0": ("fw", None),
     "trace fw:0": ("fw", None),
+    "check ble": ("ble", None),
+    "trace ble": ("ble", None),
 }
 KINDS = ["channel messages", "a third SysEx"]
 # what no port sees for long, by the carrier that is read
-FURTHER = {"din": ["real-time alone", "stray data alone"], "usb": ["two cables in turn"], "fw": ["blocks of three bytes"]}
+FURTHER = {"din": ["real-time alone", "stray data alone"], "usb": ["two cables in turn"], "fw": ["blocks of three bytes"], "ble": []}
 SINKS = ["/dev/null", "pipe", "file"]
 # to FireWire a byte becomes a packet of 42
 GROWN = 16
@@ -66,9 +71,44 @@ def dense_packet(rng, at):
     return bytes([0, 40, 0, 1, 0, at // 42 * 8 % 256, 0x90, 2, 0xFF, 0xFF]) + b"".join(notes)
 
 
+def timed_packets(rng, kind, count):
+    """BLE-MIDI packets of at most 20 bytes whose moments rise by some milliseconds a message: whole frames of no more bytes in all."""
+    out, packet, moment = bytearray(), bytearray(), 0
+
+    def put(data, stamped):
+        nonlocal packet
+        data = bytes([0x80 | moment & 127]) * stamped + data
+        header = 0x80 | moment >> 7 & 63
+        if packet and (len(packet) + len(data) > 20 or (stamped and packet[0] != header)):
+            out.extend(bytes([0, len(packet)]) + packet)
+            packet = bytearray()
+        packet = packet or bytearray([header])
+        packet += data
+
+    while len(out) < count:
+        moment += rng.randrange(8)
+        for _ in range(rng.randrange(1, 40)):
+            status = rng.randrange(0x80, 0xF0)
+            put(bytes([status] + [rng.randrange(128) for _ in range(1 if 0xC0 <= status < 0xE0 else 2)]), True)
+            if rng.random() < 0.1:
+                put(b"\xf8", True)
+            moment += rng.randrange(8)
+        if kind == "a third SysEx":
+            put(b"\xf0", True)
+            for _ in range(rng.randrange(4, 200)):
+                put(bytes([rng.randrange(128)]), False)
+            put(b"\xf7", True)
+    end = 0
+    while end + 2 <= count and end + 2 + 256 * out[end] + out[end + 1] <= count:
+        end += 2 + 256 * out[end] + out[end + 1]
+    return bytes(out[:end])
+
+
 def recording(program, kind, carrier, size):
-    """Bytes of a kind: one MiB made by chance with a fixed seed, again and again up to the size; as a byte line, or as packets of cable 0 or port 0."""
+    """Bytes of a kind: one MiB made by chance with a fixed seed, again and again up to the size; as a byte line, or as packets of cable 0, of port 0 or of BLE-MIDI."""
     rng = random.Random(7)
+    if carrier == "ble":
+        return timed_packets(rng, kind, MIB) * (size // MIB)
     block = bytearray()
     while len(block) < MIB:
         if kind == "real-time alone":
@@ -186,6 +226,9 @@ def memory(program, commands, room):
         elif carrier == "fw":
             data = bytes([0, 12, 0, 1, 0, 0, 0x90, 2, 0xFF, 0xFF, 0x83, 0x55, 0x55, 0x55])
             dump = [data[:10] + b"\x81\xf0\x00\x00"] + [data * (MIB // 14)] * 96 + [data[:10] + b"\x81\xf7\x00\x00"]
+        elif carrier == "ble":
+            packet = b"\x00\x14\x80" + b"\x55" * 19
+            dump = [b"\x00\x03\x80\x80\xf0"] + [packet * (MIB // 22)] * 96 + [b"\x00\x03\x80\x80\xf7"]
         else:
             dump = [b"\x04\xf0\x55\x55"] + [b"\x04\x55\x55\x55" * (MIB // 4)] * 96 + [b"\x05\xf7\x00\x00"]
         peaks.append(peak_memory(words, dump))

@@ -1,8 +1,8 @@
 // The same work as `midibridge convert`, from a byte line or cable 0 to cable 0, cable 1 or a byte line, and between a byte line and
-// FireWire's port 0, in plain C and with the same reads and writes: read at most 512 bytes, convert them, write all that they give,
-// read on; to FireWire, where a byte is a packet, write whenever fewer than 126 of 1,024 bytes are free. bench/bridge.py compiles and
-// times it. Its words are `din usb`, `din din`, `usb usb`, `usb din`, `din fw` and `fw din`; a cable that is written after one is
-// cable 1.
+// FireWire's port 0 or BLE-MIDI packets of 20 bytes, and from these to the like, in plain C and with the same reads and writes: read at most 512 bytes, convert them, write all that they give,
+// read on; to FireWire, where a byte is a packet, write whenever fewer than 126 of 1,024 bytes are free, to BLE-MIDI fewer than 108.
+// bench/bridge.py compiles and times it. Its words are `din usb`, `din din`, `usb usb`, `usb din`, `din fw`, `fw din`, `din ble`,
+// `ble din` and `ble ble`; a cable that is written after one is cable 1.
 #include <string.h>
 #include <unistd.h>
 
@@ -25,6 +25,13 @@ struct state {
   unsigned block, blocks;       // the number of the block under way, and how many there are
   unsigned quadlets, at, midis; // of the block: quadlets behind it, bytes of the quadlet under way, and MIDI conformant ones
   byte own;                     // bytes of the quadlet that the port still carries
+  // from BLE-MIDI: the packet under way, and the clock
+  enum { LENGTH, SECOND, HEAD, SKIP, INSIDE, STAMPED } where;
+  byte upper, low, has_low, channel; // the stamps' upper six bits, the last one's lower seven, and the status that runs on
+  unsigned long long moment;
+  // to BLE-MIDI: the packet under way behind its header
+  byte content[20], filled, runs, has_stamp, fallen;
+  unsigned long long oldest, last, latest; // moments of its first and last stamp, and of its last spelling
 };
 
 static byte out[4096];
@@ -101,6 +108,50 @@ static inline void message_fire(struct state *s, byte status, byte a, byte b) {
 static inline void start_fire(struct state *s) { byte_fire(s, 0xf0); }
 static inline void end_fire(struct state *s) { byte_fire(s, 0xf7); }
 
+// The same as BLE-MIDI packets of at most 20 bytes. A packet ends before what it has no room for, what lies 128 ms behind its last
+// stamp, and a second fall of the stamps' lower seven bits.
+static inline void end_packet(struct state *s) {
+  if (s->filled == 0) return;
+  byte *to = out + s->used;
+  to[0] = 0, to[1] = s->filled + 1, to[2] = 0x80 | ((s->has_stamp ? s->oldest : s->latest) >> 7 & 63);
+  memcpy(to + 3, s->content, s->filled);
+  s->used += 3u + s->filled;
+  s->filled = s->runs = s->has_stamp = s->fallen = 0;
+}
+static inline int falls(struct state *s) { return s->has_stamp && (s->moment & 127) < (s->last & 127); }
+static inline void make_room(struct state *s, unsigned bytes, int stamped) {
+  if (s->filled && (1 + s->filled + bytes > 20 || (stamped && s->has_stamp && s->moment >= s->last + 128) ||
+                    (stamped && s->fallen && falls(s))))
+    end_packet(s);
+}
+static inline void stamp_ble(struct state *s) {
+  s->fallen |= falls(s);
+  if (!s->has_stamp) s->oldest = s->moment, s->has_stamp = 1;
+  s->last = s->latest = s->moment;
+  s->content[s->filled++] = 0x80 | (s->moment & 127);
+}
+static inline void message_ble(struct state *s, byte status, byte a, byte b) {
+  unsigned data = status == 0xf6 ? 0 : is_one(status) ? 1 : 2;
+  make_room(s, 1 + (s->runs != status) + data, 1);
+  stamp_ble(s);
+  if (s->runs != status) s->content[s->filled++] = status;
+  if (data > 0) s->content[s->filled++] = a;
+  if (data > 1) s->content[s->filled++] = b;
+  s->runs = status < 0xf0 ? status : 0;
+}
+static inline void status_ble(struct state *s, byte b) {
+  make_room(s, 2, 1);
+  stamp_ble(s);
+  s->content[s->filled++] = b;
+}
+static inline void real_time_ble(struct state *s, byte b) { status_ble(s, b); }
+static inline void start_ble(struct state *s) { status_ble(s, 0xf0), s->runs = 0; }
+static inline void end_ble(struct state *s) { status_ble(s, 0xf7), s->runs = 0; }
+static inline void byte_ble(struct state *s, byte b) {
+  make_room(s, 1, 0);
+  s->content[s->filled++] = b, s->latest = s->moment, s->runs = 0;
+}
+
 // One byte of a byte line.
 #define TAKE(s, b, message, real_time, start, data, end, broken)                        \
   if (b < 0x80) {                                                                      \
@@ -145,6 +196,16 @@ static void to_fire(struct state *kept, const byte *piece, size_t count) {
     byte b = piece[i];
     TAKE(s, b, message_fire, byte_fire, start_fire, byte_fire, end_fire, abort_din)
     if (s->used > 1024 - 126 && !write_out(s)) _exit(4);
+  }
+  *kept = now;
+}
+
+static void to_ble(struct state *kept, const byte *piece, size_t count) {
+  struct state now = *kept, *s = &now;
+  for (size_t i = 0; i < count; i++) {
+    byte b = piece[i];
+    TAKE(s, b, message_ble, real_time_ble, start_ble, byte_ble, end_ble, abort_din)
+    if (s->used > 1024 - 108 && !write_out(s)) _exit(4);
   }
   *kept = now;
 }
@@ -226,14 +287,65 @@ static void fire_to_din(struct state *kept, const byte *piece, size_t count) {
   *kept = now;
 }
 
+// A stamp's lower seven bits.
+static inline void low_ble(struct state *s, byte low) {
+  if (s->has_low && low < s->low) s->upper = (s->upper + 1) & 63;
+  s->low = low, s->has_low = 1;
+  s->moment += (((unsigned)s->upper << 7 | low) - s->moment) & 8191;
+}
+static inline void status_in(struct state *s, byte b) {
+  if (b < 0xf0) s->channel = b;
+  else if (b == 0xf0 || b == 0xf4 || b == 0xf5 || b == 0xf7) s->channel = 0;
+}
+static inline void close_packet(struct state *s) {
+  if (!s->in_sysex) s->status = s->has_first = 0;
+  s->where = LENGTH;
+}
+
+#define FROM_BLE(name, message, real_time, start, data, end, room)                                \
+  static void name(struct state *kept, const byte *piece, size_t count) {                        \
+    struct state now = *kept, *s = &now;                                                         \
+    for (size_t i = 0; i < count; i++) {                                                         \
+      byte b = piece[i];                                                                         \
+      if (s->where == LENGTH) {                                                                  \
+        s->size = 256u * b, s->where = SECOND;                                                   \
+        continue;                                                                                \
+      }                                                                                          \
+      if (s->where == SECOND) {                                                                  \
+        s->left = s->size + b, s->channel = 0, s->has_low = 0, s->where = HEAD;                  \
+        if (s->left == 0) close_packet(s);                                                       \
+        continue;                                                                                \
+      }                                                                                          \
+      if (s->where == HEAD) {                                                                    \
+        s->where = b < 0x80 ? SKIP : INSIDE, s->upper = b < 0x80 ? s->upper : b & 63;            \
+      } else if (s->where == INSIDE && b >= 0x80) {                                              \
+        low_ble(s, b & 127), s->where = STAMPED;                                                 \
+      } else if (s->where != SKIP) {                                                             \
+        s->where = INSIDE;                                                                       \
+        if (b >= 0x80) status_in(s, b);                                                          \
+        TAKE(s, b, message, real_time, start, data, end, abort_din)                              \
+        if (s->status == 0 && !s->in_sysex) s->status = s->channel;                              \
+        if (s->used > 1024 - (room) && !write_out(s)) _exit(4);                                  \
+      }                                                                                          \
+      if (--s->left == 0) close_packet(s);                                                       \
+    }                                                                                            \
+    *kept = now;                                                                                 \
+  }
+
+FROM_BLE(ble_to_din, message_din, byte_din, start_din, byte_din, end_din, 16)
+FROM_BLE(ble_to_ble, message_ble, real_time_ble, start_ble, byte_ble, end_ble, 108)
+
 int main(int count, char **words) {
   if (count != 3) return 2;
   int packets = strcmp(words[1], "usb") == 0, usb = strcmp(words[2], "usb") == 0;
   int from_fire = strcmp(words[1], "fw") == 0, fire = strcmp(words[2], "fw") == 0;
+  int from_ble = strcmp(words[1], "ble") == 0, ble = strcmp(words[2], "ble") == 0;
   struct state state = {.cable = packets ? 0x10 : 0};
   void (*convert)(struct state *, const byte *, size_t) =
       from_fire ? fire_to_din
       : fire    ? to_fire
+      : from_ble ? (ble ? ble_to_ble : ble_to_din)
+      : ble     ? to_ble
       : packets ? (usb ? packets_to_usb : packets_to_din)
                 : (usb ? to_usb : to_din);
   byte piece[512];
@@ -245,6 +357,7 @@ int main(int count, char **words) {
     if (!write_out(&state)) return 4;
   }
   if (usb) abort_usb(&state);
+  if (ble) end_packet(&state);
   if (!write_out(&state)) return 4;
-  return state.place || state.part != HIGH ? 5 : 0;
+  return state.place || state.part != HIGH || state.where != LENGTH ? 5 : 0;
 }

@@ -21,11 +21,12 @@ while IFS='|' read -r _ file bytes _ becomes _; do
   case $file in
     *.din) specs="din usb:0" ;;
     *.fw) specs="fw:0 din" ;;
+    *.ble) specs="ble din" ;;
     *) specs="usb:0 din" ;;
   esac
   found=$("$program" convert $specs <"$file" 2>/dev/null | hex)
   [ "$found" = "$wanted" ] || { echo "$file: it becomes $found"; wrong=1; }
-done < <(grep '^| `.*\.\(din\|usb\|fw\)`' README.md)
+done < <(grep '^| `.*\.\(din\|usb\|fw\|ble\)`' README.md)
 
 # The commands that README.md shows, each with the lines below it.
 shown=0

@@ -11,13 +11,17 @@ use Rattle.mb_carrier.proofs.PutLemmas.{puts_of-in}
 use Rattle.mb_carrier.specs.DinLaws as din_laws
 use Rattle.mb_carrier.specs.UsbLaws as usb_laws
 use Rattle.mb_carrier.specs.FireLaws as fire_laws
+use Rattle.mb_carrier.specs.BleLaws as ble_laws
 use Rattle.mb_carrier.specs.Word.{IsSpec, AreSpecs}
-use Rattle.mb_carrier.specs.declared.spec.Spec.TheVariants.{Din, Usb, Fire}
+use Rattle.mb_carrier.specs.declared.spec.Spec.TheVariants.{Din, Usb, Fire, Ble}
 use Rattle.mb_din.proofs.DinMarks as din
 use Rattle.mb_din.proofs.WrittenMarks as din_law
 use Rattle.mb_din.specs.Written.{din_written}
 use Rattle.mb_usb.proofs.CarrierLaws as usb
 use Rattle.mb_fire.proofs.CarrierLaws as fire
+use Rattle.mb_ble.proofs.BleMarks as ble
+use Rattle.mb_ble.proofs.WrittenLaws.{written-size, written-whole}
+use Rattle.mb_ble.proofs.WrittenPackets as ble_written
 
 pub laws : (s : Spec) → CarrierLaws s
 laws Din =
@@ -55,6 +59,18 @@ laws (Fire port) =
       clean = λ is puts. fire.clean port (signs_in puts) is;
       whole_packets = λ puts suits. fire.whole port (signs_in puts);
       ends = fire_laws.marks-end port;
+    }
+laws (Ble size) =
+    record {
+      suits = ble.suits;
+      valid = ble.valid;
+      few = ble.few;
+      means = λ is. ble_written.means size;
+      one_more = λ is. ble_written.one_more size;
+      size = λ is puts suits. omega (arith, written-size size puts);
+      clean = λ is. ble_written.clean size;
+      whole_packets = λ puts suits. written-whole size puts;
+      ends = ble_laws.marks-end;
     }
 
 -- what a hop hands on has the marks that it read

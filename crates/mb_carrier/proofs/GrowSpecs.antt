@@ -20,8 +20,9 @@ use Rattle.mb_carrier.specs.Laws.{GrowLaws}
 use Rattle.mb_carrier.specs.DinLaws as din
 use Rattle.mb_carrier.specs.UsbLaws as usb_laws
 use Rattle.mb_carrier.specs.FireLaws as fire_laws
+use Rattle.mb_carrier.specs.BleLaws as ble_laws
 use Rattle.mb_carrier.specs.declared.spec.Spec.{Spec}
-use Rattle.mb_carrier.specs.declared.spec.Spec.TheVariants.{Din, Usb, Fire}
+use Rattle.mb_carrier.specs.declared.spec.Spec.TheVariants.{Din, Usb, Fire, Ble}
 use Rattle.mb_carrier.proofs.PlaceLemmas.{StandsIn, In, line-in, one-in}
 
 one-same : (m n : ℕ → ℕ) (count at : ℕ) (t : Told) → ((i : ℕ) → i < count → m i ≡ n i) → StandsIn 0 count at t →
@@ -46,6 +47,11 @@ fire-same : (port : ℕ) (m n : ℕ → ℕ) (count : ℕ) (ks : List Known) →
 fire-same port m n count [] f h = refl
 fire-same port m n count (k ∷ ks) f h = ap₂ (λ a b. a ++ b) (one-same m n count k.at k.told f h.0)
     (fire-same port m n count ks f h.1)
+
+-- packets have moments of their own
+ble-same : (size : ℕ) (m n : ℕ → ℕ) (ks : List Known) → puts_known (Ble size) m ks ≡ puts_known (Ble size) n ks
+ble-same size m n [] = refl
+ble-same size m n (k ∷ ks) = ap (λ ps. put_in k.moment k.told ++ ps) (ble-same size m n ks)
 
 din-place : (bytes : List ℕ) → Each (In 0 (length bytes)) (so_far (din_payload bytes))
 din-place bytes = line-in [] bytes [] [] (so_far (din_payload bytes)) [] refl
@@ -99,6 +105,14 @@ grows (Fire port) = record {
   closes = λ puts suits. fire_laws.live-closes port puts;
   known_stays = fire_laws.known-stays port;
   same = λ m n bytes f. fire-same port m n (length bytes) (port_so_far port bytes) f (fire-place port bytes);
+  nothing = refl;
+  nothing_known = refl;
+}
+grows (Ble size) = record {
+  stays = λ puts more suits. ble_laws.live-stays size puts more;
+  closes = λ puts suits. ble_laws.live-closes size puts;
+  known_stays = ble_laws.known-stays;
+  same = λ m n bytes f. ble-same size m n (known (Ble size) bytes);
   nothing = refl;
   nothing_known = refl;
 }

@@ -1,3 +1,4 @@
+pub mod BleLemmas
 pub mod CableLemmas
 pub mod ConversionLemmas
 pub mod FillLemmas

@@ -1,8 +1,9 @@
 -- What stands written before the end of a recording, and what it may lack.
 use Rattle.std.proofs.Common.{◌≡◌, List, [], ◌∷◌, refl}
+use Rattle.std.specs.Prelude.{Some, None}
 use Rattle.mb_carrier.specs.Conversion.{live_through, through}
 use Rattle.mb_carrier.specs.Live.{most_held}
-use Rattle.mb_carrier.specs.declared.spec.Spec.TheVariants.{Din, Usb}
+use Rattle.mb_carrier.specs.declared.spec.Spec.TheVariants.{Din, Usb, Ble}
 
 -- two bytes of a SysEx fill no packet yet
 example-one_cable : live_through Din [] (Usb 0) (0xf0 ∷ 1 ∷ 2 ∷ 3 ∷ 4 ∷ []) ≡ 0x04 ∷ 0xf0 ∷ 1 ∷ 2 ∷ []
@@ -22,5 +23,21 @@ example-realtime : live_through Din [] (Usb 0) (0xf0 ∷ 1 ∷ 0xf8 ∷ []) ≡ 
 example-realtime = refl
 
 -- a byte line holds nothing back
-example-most : most_held (Usb 0 ∷ Din ∷ Usb 3 ∷ []) ≡ 4
+example-most : most_held (Usb 0 ∷ Din ∷ Usb 3 ∷ []) ≡ Some 4
 example-most = refl
+
+-- a packet holds whole messages back
+example-packet : most_held (Usb 0 ∷ Ble 20 ∷ []) ≡ None
+example-packet = refl
+
+-- the packet under way waits, and comes at the end
+example-under_way : live_through Din [] (Ble 20) (0x90 ∷ 0x3c ∷ 0x64 ∷ []) ≡ []
+example-under_way = refl
+
+example-last_packet : through Din [] (Ble 20) (0x90 ∷ 0x3c ∷ 0x64 ∷ [])
+    ≡ 0 ∷ 5 ∷ 0x80 ∷ 0x80 ∷ 0x90 ∷ 0x3c ∷ 0x64 ∷ []
+example-last_packet = refl
+
+-- packets of at most five bytes: the first is whole where the second begins
+example-first_packet : live_through Din [] (Ble 5) (0xf0 ∷ 1 ∷ 2 ∷ 3 ∷ []) ≡ 0 ∷ 5 ∷ 0x80 ∷ 0x80 ∷ 0xf0 ∷ 1 ∷ 2 ∷ []
+example-first_packet = refl

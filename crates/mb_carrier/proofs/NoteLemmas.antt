@@ -6,10 +6,11 @@ use Rattle.mb_stream.specs.Payload.{last_moment}
 use Rattle.mb_stream.specs.Told.{Known, Told, Marks, Notes}
 use Rattle.mb_stream.specs.Reading.{Part, Remark, part_of, part_at, note_in}
 use Rattle.mb_stream.specs.Reading as stream
-use Rattle.mb_carrier.specs.Carrier.{known, payload_of, end_told, reading_of, notes_of}
+use Rattle.mb_carrier.specs.Carrier.{known, payload_of, end_told, end_moment, reading_of, notes_of}
+use Rattle.mb_carrier.specs.Conversion.{none_set}
 use Rattle.mb_carrier.specs.Listing.{told_of, has_notes}
 use Rattle.mb_carrier.specs.declared.spec.Spec.{Spec}
-use Rattle.mb_carrier.specs.declared.spec.Spec.TheVariants.{Din, Usb, Fire}
+use Rattle.mb_carrier.specs.declared.spec.Spec.TheVariants.{Din, Usb, Fire, Ble}
 
 -- a reading is what is known and what its end tells, at some moment
 read-ends : (s : Spec) (bytes : List ℕ) → (m : ℕ) ×
@@ -17,6 +18,7 @@ read-ends : (s : Spec) (bytes : List ℕ) → (m : ℕ) ×
 read-ends Din bytes = (last_moment 0 (payload_of Din bytes), refl)
 read-ends (Usb cable) bytes = (0, refl)
 read-ends (Fire port) bytes = (0, refl)
+read-ends (Ble size) bytes = (end_moment (Ble size) none_set bytes, refl)
 
 abbrev remarks : List Told → List Remark
 remarks ts = flat_map note_in ts

@@ -1,3 +1,4 @@
+pub mod BleLaws
 pub mod Carrier
 pub mod Conversion
 pub mod DinLaws

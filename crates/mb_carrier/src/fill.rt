@@ -16,7 +16,8 @@ use mb_message::{Buf, Ev, Seen};
 /// Reads a piece on and writes what it gives into an empty buffer, until the piece is used up, or the buffer has no
 /// room for one more event: then it answers what is left of the piece. Where moments are kept apart, it stops also
 /// before an event of another moment, so that all that it writes has the moment that the reader named before.
-#[inline(always)]
+/// Each pair of carriers has a loop of its own, which a compiler lays out by itself.
+#[inline(never)]
 pub(crate) fn fill_pair<'a, R: EventReader, W: EventWriter>(
     reader: &mut R,
     writer: &mut W,
@@ -44,14 +45,46 @@ pub(crate) fn fill_pair<'a, R: EventReader, W: EventWriter>(
     ensures moment { HasMoment piece.entry.moment result }
     ensures progress { work (R.owed reader.new) result < work (R.owed reader.old) (Some piece.entry) }
 {
-    // A compiler keeps the length of a local buffer in a register.
+    fill_buffer(reader, writer, apart, piece, held)
+}
+
+/// The same, by way of a buffer of its own, whose length a compiler keeps in a register. It is worth the moving where
+/// each event is several bytes.
+#[inline(never)]
+pub(crate) fn fill_own_buffer<'a, R: EventReader, W: EventWriter>(
+    reader: &mut R,
+    writer: &mut W,
+    apart: bool,
+    piece: Piece<'a>,
+    held: &mut Buf,
+) -> Option<Piece<'a>>
+    requires early { R.offset reader.old + length piece.rest.now ≤ 2 ^ 51 + 2 ^ 14 }
+    requires empty { held.old.items ≡ [] }
+    requires flows { (moments : ℕ → ℕ) × (bytes : List ℕ) × (puts : List Put) × (base : List ℕ) ×
+        OnItsWay (R.spec reader.old) (W.spec writer.old) moments (R.moment reader.old) (R.stands reader.old)
+        (W.stands writer.old)
+        bytes (Some piece) puts base held.old.items }
+    ensures reads { R.spec reader.new ≡ R.spec reader.old }
+    ensures writes { W.spec writer.new ≡ W.spec writer.old }
+    ensures offset { R.offset reader.new + unread result ≡ R.offset reader.old + length piece.entry.rest.now }
+    ensures goes_on { (moments : ℕ → ℕ) (bytes : List ℕ) (puts : List Put) (base : List ℕ) →
+        OnItsWay (R.spec reader.old) (W.spec writer.old) moments (R.moment reader.old) (R.stands reader.old)
+        (W.stands writer.old)
+        bytes (Some piece.entry) puts base held.old.items →
+        More apart (R.moment reader.old piece.entry.moment) puts (λ ps.
+        OnItsWay (R.spec reader.old) (W.spec writer.old) moments (R.moment reader.new) (R.stands reader.new)
+        (W.stands writer.new)
+        bytes result ps base held.new.items) }
+    ensures moment { HasMoment piece.entry.moment result }
+    ensures progress { work (R.owed reader.new) result < work (R.owed reader.old) (Some piece.entry) }
+{
     let mut buffer = Buf::new();
     let left = fill_buffer(reader, writer, apart, piece, &mut buffer);
     *held = buffer;
     left
 }
 
-/// The same, into a buffer that nothing else refers to.
+/// `fill_pair`, where it is called.
 #[inline(always)]
 fn fill_buffer<'a, R: EventReader, W: EventWriter>(
     reader: &mut R,

@@ -6,7 +6,7 @@ ghost use Rattle.mb_carrier.specs.Fill.{OnItsWay, More, unread, work, HasMoment}
 ghost use Rattle.mb_carrier.specs.Port.{reader_spec, reader_offset, reader_owed, reader_moment, ReaderStands};
 ghost use Rattle.mb_carrier.specs.Port.{writer_spec, WriterStands};
 
-use crate::fill::fill_pair;
+use crate::fill::{fill_own_buffer, fill_pair};
 use crate::reader::{PortReader, ReaderOf};
 use crate::writer::{PortWriter, WriterOf};
 use crate::{EventReader, Piece};
@@ -46,6 +46,7 @@ pub fn fill_hop<'a>(
         ReaderOf::Din(reader) => fill_from(reader, writer, apart, piece, held),
         ReaderOf::Usb(reader) => fill_from(reader, writer, apart, piece, held),
         ReaderOf::Fire(reader) => fill_from(reader, writer, apart, piece, held),
+        ReaderOf::Ble(reader) => fill_from(reader, writer, apart, piece, held),
     }
 }
 
@@ -77,7 +78,8 @@ fn fill_from<'a, R: EventReader>(
 {
     match &mut writer.carrier {
         WriterOf::Din(writer) => fill_pair(reader, writer, apart, piece, held),
-        WriterOf::Usb(writer) => fill_pair(reader, writer, apart, piece, held),
+        WriterOf::Usb(writer) => fill_own_buffer(reader, writer, apart, piece, held),
         WriterOf::Fire(writer) => fill_pair(reader, writer, apart, piece, held),
+        WriterOf::Ble(writer) => fill_pair(reader, writer, apart, piece, held),
     }
 }

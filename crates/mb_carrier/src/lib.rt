@@ -1,6 +1,7 @@
 //! One face over the carriers. From here up a recording is read and written by its spec, and no packet is named.
 #![tactic(auto)]
 
+mod ble;
 mod din;
 mod events;
 mod fill;

@@ -16,6 +16,7 @@ ghost use Rattle.mb_carrier.specs.Port.{is_partial_by, ReaderStandsBy, ReaderRes
 ghost use Rattle.mb_carrier.specs.Step.{seen_in, seen_of, IsAt};
 ghost use Rattle.mb_carrier.specs.Word.{IsSpec};
 
+use crate::ble::BlePort;
 use crate::{EventReader, PortStep, Spec};
 use mb_din::DinReader;
 use mb_fire::FirePortReader;
@@ -28,6 +29,7 @@ pub(crate) enum ReaderOf {
     Din(DinReader),
     Usb(CableReader),
     Fire(FirePortReader),
+    Ble(BlePort),
 }
 
 /// A reader of one port: its marks, its notes, and the notes on all packets. It keeps no more than its carrier's reader
@@ -51,6 +53,7 @@ impl PortReader {
             Spec::Din => ReaderOf::Din(DinReader::new()),
             Spec::Usb(cable) => ReaderOf::Usb(CableReader::new(cable)),
             Spec::Fire(port) => ReaderOf::Fire(FirePortReader::new(port)),
+            Spec::Ble(size) => ReaderOf::Ble(BlePort::new(size)),
         };
         PortReader { carrier, moment: 0 }
     }
@@ -142,6 +145,7 @@ impl PortReader {
             ReaderOf::Din(_) => false,
             ReaderOf::Usb(reader) => reader.partial() != 0,
             ReaderOf::Fire(reader) => reader.partial(),
+            ReaderOf::Ble(reader) => reader.packets.partial(),
         }
     }
 }
@@ -239,6 +243,7 @@ fn next_seen<'a>(carrier: &mut ReaderOf, input: &mut &'a [u8]) -> Option<Seen<'a
         ReaderOf::Din(reader) => EventReader::next(reader, input),
         ReaderOf::Usb(reader) => EventReader::next(reader, input),
         ReaderOf::Fire(reader) => EventReader::next(reader, input),
+        ReaderOf::Ble(reader) => EventReader::next(reader, input),
     }
 }
 
@@ -260,6 +265,7 @@ fn last_seen(carrier: &mut ReaderOf) -> Option<Seen<'static>>
         ReaderOf::Din(reader) => EventReader::finish(reader),
         ReaderOf::Usb(reader) => EventReader::finish(reader),
         ReaderOf::Fire(reader) => EventReader::finish(reader),
+        ReaderOf::Ble(reader) => EventReader::finish(reader),
     }
 }
 
@@ -271,5 +277,6 @@ fn moment_by(carrier: &ReaderOf, moment_set: u64) -> u64
         ReaderOf::Din(reader) => EventReader::moment(reader, moment_set),
         ReaderOf::Usb(reader) => EventReader::moment(reader, moment_set),
         ReaderOf::Fire(reader) => EventReader::moment(reader, moment_set),
+        ReaderOf::Ble(reader) => EventReader::moment(reader, moment_set),
     }
 }

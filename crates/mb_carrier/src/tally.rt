@@ -39,5 +39,9 @@ fn put_word(spec: Spec, out: &mut Line)
             put_text("fw:", out);
             put_number(u64::from(port), out);
         }
+        Spec::Ble(size) => {
+            put_text("ble/", out);
+            put_number(u64::from(size), out);
+        }
     }
 }

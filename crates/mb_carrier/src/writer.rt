@@ -11,6 +11,7 @@ ghost use Rattle.mb_carrier.specs.Word.{IsSpec};
 
 use crate::fire::put_long;
 use crate::{EventWriter, Spec};
+use mb_ble::BleWriter;
 use mb_din::DinWriter;
 use mb_fire::FirePortWriter;
 use mb_message::{Buf, Ev, Memory};
@@ -23,6 +24,7 @@ pub(crate) enum WriterOf {
     Din(DinWriter),
     Usb(UsbWriter),
     Fire(FirePortWriter),
+    Ble(BleWriter),
 }
 
 /// A writer of one port. It keeps no more than its carrier's writer does, and never grows.
@@ -32,7 +34,7 @@ pub struct PortWriter {
 }
 
 impl PortWriter {
-    /// A writer of a spec's port. These carriers' writers take no memory.
+    /// A writer of a spec's port. No carrier's writer takes memory.
     pub fn new(_alloc: Global, spec: Spec) -> Result<PortWriter, Memory>
         requires { IsSpec spec }
         ensures memory { IsOk result }
@@ -44,6 +46,7 @@ impl PortWriter {
             Spec::Din => WriterOf::Din(DinWriter::new(true)),
             Spec::Usb(cable) => WriterOf::Usb(UsbWriter::new(cable)),
             Spec::Fire(port) => WriterOf::Fire(FirePortWriter::new(port)),
+            Spec::Ble(size) => WriterOf::Ble(BleWriter::new(size)),
         };
         Ok(PortWriter { carrier })
     }
@@ -56,6 +59,7 @@ impl PortWriter {
             WriterOf::Din(writer) => writer.in_sysex(),
             WriterOf::Usb(writer) => writer.in_sysex(),
             WriterOf::Fire(writer) => writer.in_sysex(),
+            WriterOf::Ble(writer) => writer.in_sysex(),
         }
     }
 
@@ -68,6 +72,7 @@ impl PortWriter {
             WriterOf::Din(writer) => EventWriter::longest(writer),
             WriterOf::Usb(writer) => EventWriter::longest(writer),
             WriterOf::Fire(writer) => FirePortWriter::longest(writer),
+            WriterOf::Ble(writer) => EventWriter::longest(writer),
         }
     }
 
@@ -80,6 +85,7 @@ impl PortWriter {
             WriterOf::Din(writer) => EventWriter::room(writer),
             WriterOf::Usb(writer) => EventWriter::room(writer),
             WriterOf::Fire(writer) => FirePortWriter::room(writer),
+            WriterOf::Ble(writer) => EventWriter::room(writer),
         }
     }
 
@@ -102,6 +108,7 @@ impl PortWriter {
             WriterOf::Din(writer) => EventWriter::put(writer, moment, ev, out),
             WriterOf::Usb(writer) => EventWriter::put(writer, moment, ev, out),
             WriterOf::Fire(writer) => put_long(writer, moment, ev, out),
+            WriterOf::Ble(writer) => EventWriter::put(writer, moment, ev, out),
         }
     }
 
@@ -119,6 +126,7 @@ impl PortWriter {
             WriterOf::Din(writer) => EventWriter::flush(writer, out),
             WriterOf::Usb(writer) => EventWriter::flush(writer, out),
             WriterOf::Fire(_) => {}
+            WriterOf::Ble(writer) => EventWriter::flush(writer, out),
         }
     }
 
@@ -136,6 +144,7 @@ impl PortWriter {
             WriterOf::Din(writer) => EventWriter::finish(writer, out),
             WriterOf::Usb(writer) => EventWriter::finish(writer, out),
             WriterOf::Fire(writer) => FirePortWriter::finish(writer, out),
+            WriterOf::Ble(writer) => EventWriter::finish(writer, out),
         }
     }
 }

@@ -1,5 +1,5 @@
 -- Before the end of the input: what was written is the live part of what was read, and what that means.
-use Rattle.std.proofs.Common.{◌≡◌, ℕ, true, false, List, [], ◌∷◌, ◌++◌, sym, ◌∙◌, ap, subst}
+use Rattle.std.proofs.Common.{◌≡◌, ℕ, true, false, List, [], ◌∷◌, ◌++◌, sym, ◌∙◌, ap, subst, IfSome}
 use Rattle.mb_message.specs.Front.{IsFront}
 use Rattle.mb_outside.specs.Contents.{Contents}
 use Rattle.mb_stream.specs.Lacking.{Lacks}
@@ -48,9 +48,10 @@ live_written words limit before after faults faults_now answer c part m a =
 pub so_far-lacks : (first : Spec) (between : List Spec) (last : Spec) (read written : List ℕ) →
     AreSpecs between → IsSpec last →
     written ≡ live_through first between last read →
-    Lacks (most_held (between ++ last ∷ [])) (den last written) (den first read)
+    IfSome (most_held (between ++ last ∷ [])) (λ most. Lacks most (den last written) (den first read))
 so_far-lacks first between last read written are is e =
-    subst (λ (bytes : List ℕ). Lacks (most_held (between ++ last ∷ [])) (den last bytes) (den first read)) (sym e)
+    subst (λ (bytes : List ℕ). IfSome (most_held (between ++ last ∷ []))
+    (λ most. Lacks most (den last bytes) (den first read))) (sym e)
     (live.so_far-lacks first between last read are is)
 
 pub so_far-held : (first : Spec) (between : List Spec) (last : Spec) (read written : List ℕ) →

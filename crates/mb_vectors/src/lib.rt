@@ -2,6 +2,8 @@
 #![tactic(auto)]
 
 #[cfg(test)]
+mod ble;
+#[cfg(test)]
 mod cables;
 #[cfg(test)]
 mod chain_calls;

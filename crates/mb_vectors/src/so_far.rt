@@ -1,4 +1,4 @@
-//! What stands written while the recording goes on: all that is known of it, but for what the cables hold back.
+//! What stands written while the recording goes on: all that is known of it, but for what cables and packets hold back.
 
 use crate::row::{Row, Setting, WHOLE, run, said_at};
 
@@ -59,6 +59,30 @@ const ROWS: &[SoFar] = &[
         &[0x1f, 0xf0, 0, 0, 0x1f, 1, 0, 0, 0x19, 0x90, 0x3c, 0x64],
         &[0x1f, 0xf0, 0, 0, 0x1f, 1, 0, 0, 0x19, 0x90, 0x3c, 0x64],
         3,
+    ),
+    (
+        "a packet under way waits",
+        &["convert", "din", "ble"],
+        &[0x90, 0x3c, 0x64, 0x3c, 0x00],
+        &[],
+        &[0, 8, 0x80, 0x80, 0x90, 0x3c, 0x64, 0x80, 0x3c, 0],
+        2,
+    ),
+    (
+        "a packet is written where the next begins",
+        &["convert", "din", "ble/5"],
+        &[0xf0, 1, 2, 3],
+        &[0, 5, 0x80, 0x80, 0xf0, 1, 2],
+        &[0, 5, 0x80, 0x80, 0xf0, 1, 2, 0, 2, 0x80, 3],
+        3,
+    ),
+    (
+        "a packet waits between byte lines too",
+        &["convert", "din", "ble", "din"],
+        &[0x90, 0x3c, 0x64],
+        &[],
+        &[0x90, 0x3c, 0x64],
+        2,
     ),
 ];
 

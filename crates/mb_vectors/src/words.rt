@@ -21,6 +21,7 @@ fn command_of(rt: &impl Abort, alloc: Global, words: &[&str]) -> ArrayVec<u8, 64
         Ok(Command::Trace(Spec::Din)) => b"trace",
         Ok(Command::Check(Spec::Usb(_))) => b"check",
         Ok(Command::Check(Spec::Fire(_))) => b"check of FireWire",
+        Ok(Command::Check(Spec::Ble(20))) => b"check of BLE-MIDI",
         Ok(_) => b"another",
         Err(_) => b"none",
     });
@@ -35,6 +36,10 @@ const WORDS: &[(&[&str], &[u8])] = &[
     (&["check", "fw:63"], b"check of FireWire"),
     (&["check", "fw:64"], b"none"),
     (&["check", "fw:00"], b"none"),
+    (&["check", "ble"], b"check of BLE-MIDI"),
+    (&["check", "ble/20"], b"check of BLE-MIDI"),
+    (&["check", "ble/512"], b"another"),
+    (&["check", "ble/513"], b"none"),
     (&["convert", "tally"], b"none"),
 ];
 
@@ -57,6 +62,7 @@ const LINES: &[(u8, Spec, u64, &str)] = &[
         "9 usb:15 18446744073709551615\n",
     ),
     (1, Spec::Fire(63), 42, "1 fw:63 42\n"),
+    (2, Spec::Ble(512), 7, "2 ble/512 7\n"),
 ];
 
 #[test]

@@ -4,8 +4,8 @@ use Rattle.std.proofs.Common.{◌∙◌, ap, subst, arith, codes}
 use Rattle.std.specs.Str.{bytes_eq}
 use Rattle.mb_carrier.specs.Word.{IsWordOf, IsSpec, AreSpecs}
 use Rattle.mb_carrier.specs.declared.spec.Spec.{Spec}
-use Rattle.mb_carrier.specs.declared.spec.Spec.TheVariants.{Din, Usb, Fire}
-use Rattle.mb_carrier.proofs.WordLemmas.{one_spec, word-is_spec, first_letter}
+use Rattle.mb_carrier.specs.declared.spec.Spec.TheVariants.{Din, Usb, Fire, Ble}
+use Rattle.mb_carrier.proofs.WordLemmas.{one_spec, word-is_spec, first_letter, size-letter}
 use Rattle.mb_words.specs.Command.{Command, Converting, Listing, Means, AreWordsOf, name_of, asks_tally, specs_of}
 use Rattle.mb_words.specs.Meaning.{front_of, end_of, converting}
 
@@ -56,6 +56,7 @@ not_tally : (s : Spec) → IsWordOf (codes "tally") s → ⊥
 not_tally Din e = (let differ : 116 ≡ 100 = ap first_letter e in omega (arith, differ))
 not_tally (Usb cable) e = (let differ : 116 ≡ 117 = ap first_letter e.1 in omega (arith, differ))
 not_tally (Fire port) e = (let differ : 116 ≡ 102 = ap first_letter e.1 in omega (arith, differ))
+not_tally (Ble size) e = (let differ : 116 ≡ 98 = size-letter (codes "tally") size e in omega (arith, differ))
 
 -- whether a tally is asked
 

@@ -21,3 +21,9 @@ returns-in-Fire-clause-goes_on c =
     ways-read _ (reader.Fire c.in-Fire.reader) _ _ _ (WriterStands c.args.writer.now) _ c.args.apart c.args.piece.moment
     (Some c.args.piece) _ c.args.held.now.items _
     c.in-Fire.is c.fill_from-in-Fire.ensures.goes_on
+
+pub returns-in-Ble-clause-goes_on : goal.returns-in-Ble-clause-goes_on
+returns-in-Ble-clause-goes_on c =
+    ways-read _ (reader.Ble c.in-Ble.reader) _ _ _ (WriterStands c.args.writer.now) _ c.args.apart c.args.piece.moment
+    (Some c.args.piece) _ c.args.held.now.items _
+    c.in-Ble.is c.fill_from-in-Ble.ensures.goes_on

@@ -22,3 +22,11 @@ returns-in-Fire-clause-goes c =
 pub returns-in-Fire-clause-all_told : goal.returns-in-Fire-clause-all_told
 returns-in-Fire-clause-all_told c = told_all-by _ _
     (reader.Fire c.in-Fire.reader) _ c.in-Fire.is c.next-in-Fire.ensures.all_told
+
+pub returns-in-Ble-clause-goes : goal.returns-in-Ble-clause-goes
+returns-in-Ble-clause-goes c =
+    goes-by _ (reader.Ble c.in-Ble.reader) _ _ _ _ _ c.in-Ble.is c.next-in-Ble.ensures.goes
+
+pub returns-in-Ble-clause-all_told : goal.returns-in-Ble-clause-all_told
+returns-in-Ble-clause-all_told c = told_all-by _ _
+    (reader.Ble c.in-Ble.reader) _ c.in-Ble.is c.next-in-Ble.ensures.all_told
