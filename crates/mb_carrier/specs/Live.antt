@@ -3,8 +3,8 @@
 --   HoldsBack s full less        what may be missing of the meaning of the marks that a spec's writer was handed
 --   LeavesOut size full less     the last marks may be missing, as many as are written in one packet
 --   HeldBackBy specs full less   the same of specs, each of which reads what the one before wrote
---   bytes_held, most_held        how many bytes of SysEx may be missing, of one spec and of several, where all that may be
---                                missing is bytes of SysEx
+--   bytes_held, most_held        how many bytes of SysEx may be missing, of one spec and of several, where nothing else
+--                                may be
 use Rattle.std.specs.Prelude.{◌≡◌, ℕ, ◌+◌, true, List, [], ◌∷◌, ◌++◌, Option, Some, None}
 use Rattle.mb_stream.specs.Denotation.{Denotation, denotation}
 use Rattle.mb_stream.specs.Lacking.{Lacks}
@@ -16,8 +16,8 @@ use Rattle.mb_ble.specs.Written.{ble_written}
 use Rattle.mb_carrier.specs.declared.spec.Spec.{Spec}
 use Rattle.mb_carrier.specs.declared.spec.Spec.TheVariants.{Din, Usb, Fire, Ble}
 
--- The marks that were handed on first are all that is known; the others are written in one packet of at most so many
--- bytes, or in none (BLE-MIDI 1.0, "Packet Encoding").
+-- What is missing is the last marks, as many as are written in one packet of at most so many bytes, or in none (BLE-MIDI
+-- 1.0, "Packet Encoding"). The marks before them are whole.
 pub record LeavesOut (size : ℕ) (full less : Denotation) : Type 0 where
   pub shown : List Put
   pub held : List Put
@@ -28,8 +28,8 @@ pub record LeavesOut (size : ℕ) (full less : Denotation) : Type 0 where
   pub front : IsMeaningFront less full
 
 -- The writers of a byte line and of a FireWire port hold nothing back. A cable's holds back the bytes of a SysEx that
--- fill no packet yet (USB Device Class Definition for MIDI Devices 1.0, section 4): two at most. One of BLE-MIDI packets
--- holds back the packet under way.
+-- fill no packet yet (USB Device Class Definition for MIDI Devices 1.0, section 4): two at most. That of BLE-MIDI
+-- packets holds back the packet under way.
 abbrev pub HoldsBack : Spec → (full less : Denotation) → Type 0
 HoldsBack Din full less = less ≡ full
 HoldsBack (Usb cable) full less = Lacks 2 less full

@@ -89,6 +89,14 @@ const PORTS: &[Port] = &[
         true,
     ),
     (
+        "packets have moments of their own",
+        "ble",
+        &[0, 9, 0x80, 0x85, 0x90, 0x3c, 0x64],
+        &[0x86, 0xf0, 0x01],
+        "5 short 90 3C 64\n6 open\n6 data 01\n6 abort\nnone\n",
+        true,
+    ),
+    (
         "a line is never partial",
         "din",
         &[0xf0],
@@ -155,6 +163,9 @@ const DUMP_OF_8: &[u8] = &[
     0x80, 0, 0, 0, 0x80, 0, 0, 0, 0x80, 0, 0, 0, 0x80, 0, 0, 0, 0x80, 0, 0, 0, 0x80, 0, 0, 0,
 ];
 
+/// The same as a packet, which a flush ends.
+const DUMP_IN_A_PACKET: &[u8] = &[0, 4, 0x80, 0x80, 0xf0, 0x01];
+
 /// A port, the room that its writer asks for, the longest run that it takes, and what a SysEx of one byte becomes at
 /// once, and with the finish.
 const WRITTEN: &[(&str, usize, usize, &[u8], &[u8])] = &[
@@ -162,6 +173,8 @@ const WRITTEN: &[(&str, usize, usize, &[u8], &[u8])] = &[
     ("usb:2", 24, 16, &[], &[0x2f, 0xf0, 0, 0, 0x2f, 0x01, 0, 0]),
     ("fw:0", 672, 16, DUMP_OF_0, DUMP_OF_0),
     ("fw:8", 798, 3, DUMP_OF_8, DUMP_OF_8),
+    ("ble", 108, 16, DUMP_IN_A_PACKET, DUMP_IN_A_PACKET),
+    ("ble/512", 600, 16, DUMP_IN_A_PACKET, DUMP_IN_A_PACKET),
 ];
 
 #[test]
