@@ -60,6 +60,17 @@ fn read_piece(reader: &mut PortReader, piece: &[u8], text: &mut Text)
     }
 }
 
+/// The same at a moment that is set.
+fn read_at(reader: &mut PortReader, moment: u64, piece: &[u8], text: &mut Text)
+    requires early { reader_offset reader.old + length piece.now ≤ 2 ^ 51 + 2 ^ 14 }
+    requires later { reader.old.moment ≤ moment }
+    ensures end { reader_offset reader.new ≡ reader_offset reader.old + length piece.now }
+    ensures moment { reader.new.moment ≡ moment }
+{
+    reader.set_moment(moment);
+    read_piece(reader, piece, text);
+}
+
 /// What the row shows, the port, its bytes at moment 1250 and at 1251, what they and two finishes tell, and whether a
 /// packet is cut.
 type Port = (
@@ -111,10 +122,10 @@ fn a_port_is_read_at_the_moments_that_are_set(rt: HostRuntime) {
     for (shows, word, first, second, told, partial) in PORTS {
         let mut reader = PortReader::new(Spec::read(word).expect(&rt, "a port"));
         let mut text = Text::new();
-        reader.set_moment(1250);
-        read_piece(&mut reader, first, &mut text);
-        reader.set_moment(1251);
-        read_piece(&mut reader, second, &mut text);
+        assert!(rt; first.len() <= 512, "{shows}: a piece");
+        read_at(&mut reader, 1250, first, &mut text);
+        assert!(rt; second.len() <= 512, "{shows}: a piece");
+        read_at(&mut reader, 1251, second, &mut text);
         assert!(rt; reader.partial() == *partial, "{shows}");
         put_answer(reader.finish(), &mut text);
         put_answer(reader.finish(), &mut text);
