@@ -1,5 +1,5 @@
--- Lines and words of a text: the project's own. A line ends by LF, and a CR before it is dropped; the last line may lack
--- its LF, and nothing behind the last LF is no line. Words are separated by spaces and tabs.
+-- Lines and words of a text: the project's own. A line ends by LF, and a CR before it is dropped; the last line may
+-- lack its LF, and nothing behind the last LF is no line. Words are separated by spaces and tabs.
 --
 --   lines text          its lines
 --   words line          the words of a line
