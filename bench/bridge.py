@@ -1,15 +1,15 @@
 #!/usr/bin/env python3
-"""Times the built program on recordings made here, beside `dd bs=512` and, for conversions, a plain C loop (plain.c), each once a
-round, in turn.
+"""Times the built program on recordings made here, beside `dd bs=512` and, for conversions, a plain C loop (plain.c),
+each once a round, in turn.
 
     bench/bridge.py [--program ./midibridge] [--mib 64] [--rounds 15] [--quick] [--only WORDS] [--no-memory]
 
---quick is 16 MiB and 5 rounds; --only takes the commands that contain these words. Prints the median throughput as a ratio to dd
-and to C, for each command, each kind of input and each sink (a listing, and the kinds that no port sees for long, to /dev/null
-alone), and the same ratio to C by the processor's time, which other work on the machine changes less (a sixteenth of the input
-where FireWire is written); then one table of all commands: the throughput as a ratio to dd, the peak resident memory and the time a
-byte at 1 MiB and at 256 MiB, and the memory of one System Exclusive message of 96 MiB. Ends with status 1 where an output isn't
-C's, or where memory grows with the input."""
+--quick is 16 MiB and 5 rounds; --only takes the commands that contain these words. Prints the median throughput as a
+ratio to dd and to C, for each command, each kind of input and each sink (a listing, and the kinds that no port sees
+for long, to /dev/null alone), and the same ratio to C by the processor's time, which other work on the machine
+changes less (a sixteenth of the input where FireWire is written); then one table of all commands: the throughput as a
+ratio to dd, the peak resident memory and the time a byte at 1 MiB and at 256 MiB, and the memory of one System
+Exclusive message of 96 MiB. Ends with status 1 where an output isn't C's, or where memory grows with the input."""
 import argparse
 import os
 import random
@@ -44,7 +44,12 @@ COMMANDS = {
 }
 KINDS = ["channel messages", "a third SysEx"]
 # what no port sees for long, by the carrier that is read
-FURTHER = {"din": ["real-time alone", "stray data alone"], "usb": ["two cables in turn"], "fw": ["blocks of three bytes"], "ble": []}
+FURTHER = {
+    "din": ["real-time alone", "stray data alone"],
+    "usb": ["two cables in turn"],
+    "fw": ["blocks of three bytes"],
+    "ble": [],
+}
 SINKS = ["/dev/null", "pipe", "file"]
 # to FireWire a byte becomes a packet of 42
 GROWN = 16
@@ -72,7 +77,8 @@ def dense_packet(rng, at):
 
 
 def timed_packets(rng, kind, count):
-    """BLE-MIDI packets of at most 20 bytes whose moments rise by some milliseconds a message: whole frames of no more bytes in all."""
+    """BLE-MIDI packets of at most 20 bytes whose moments rise by some milliseconds a message: whole frames of no more
+    bytes in all."""
     out, packet, moment = bytearray(), bytearray(), 0
 
     def put(data, stamped):
@@ -105,7 +111,8 @@ def timed_packets(rng, kind, count):
 
 
 def recording(program, kind, carrier, size):
-    """Bytes of a kind: one MiB made by chance with a fixed seed, again and again up to the size; as a byte line, or as packets of cable 0, of port 0 or of BLE-MIDI."""
+    """Bytes of a kind: one MiB made by chance with a fixed seed, again and again up to the size; as a byte line, or as
+    packets of cable 0, of port 0 or of BLE-MIDI."""
     rng = random.Random(7)
     if carrier == "ble":
         return timed_packets(rng, kind, MIB) * (size // MIB)
@@ -125,7 +132,8 @@ def recording(program, kind, carrier, size):
         if kind == "a third SysEx":
             block += b"\xf0" + bytes(rng.randrange(128) for _ in range(rng.randrange(4, 200))) + b"\xf7"
     if carrier != "din" and kind in KINDS:
-        block = subprocess.run([program, "convert", "din", f"{carrier}:0"], input=block, stdout=subprocess.PIPE, check=True).stdout
+        words = [program, "convert", "din", f"{carrier}:0"]
+        block = subprocess.run(words, input=block, stdout=subprocess.PIPE, check=True).stdout
     whole = MIB // 42 * 42 if carrier == "fw" else MIB  # packets of 42 bytes
     return bytes(block[:whole]) * (size // MIB)
 

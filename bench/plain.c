@@ -177,38 +177,22 @@ static inline void byte_ble(struct state *s, byte b) {
     if (b == 0xf0 || (b >= 0xf4 && b <= 0xf7)) s->status = 0;                          \
   }
 
-#define CONVERT(name, message, real_time, start, data, end, broken)                     \
+// Hands the buffer on where it has less room than is said; 0 where a piece's output fits.
+#define CONVERT(name, room, message, real_time, start, data, end, broken)               \
   static void name(struct state *kept, const byte *piece, size_t count) {              \
     struct state now = *kept, *s = &now;                                               \
     for (size_t i = 0; i < count; i++) {                                               \
       byte b = piece[i];                                                               \
       TAKE(s, b, message, real_time, start, data, end, broken)                         \
+      if (room && s->used > 1024 - room && !write_out(s)) _exit(4);                    \
     }                                                                                  \
     *kept = now;                                                                       \
   }
 
-CONVERT(to_usb, message_usb, real_time_usb, start_usb, byte_usb, end_usb, abort_usb)
-CONVERT(to_din, message_din, byte_din, start_din, byte_din, end_din, abort_din)
-
-static void to_fire(struct state *kept, const byte *piece, size_t count) {
-  struct state now = *kept, *s = &now;
-  for (size_t i = 0; i < count; i++) {
-    byte b = piece[i];
-    TAKE(s, b, message_fire, byte_fire, start_fire, byte_fire, end_fire, abort_din)
-    if (s->used > 1024 - 126 && !write_out(s)) _exit(4);
-  }
-  *kept = now;
-}
-
-static void to_ble(struct state *kept, const byte *piece, size_t count) {
-  struct state now = *kept, *s = &now;
-  for (size_t i = 0; i < count; i++) {
-    byte b = piece[i];
-    TAKE(s, b, message_ble, real_time_ble, start_ble, byte_ble, end_ble, abort_din)
-    if (s->used > 1024 - 108 && !write_out(s)) _exit(4);
-  }
-  *kept = now;
-}
+CONVERT(to_usb, 0, message_usb, real_time_usb, start_usb, byte_usb, end_usb, abort_usb)
+CONVERT(to_din, 0, message_din, byte_din, start_din, byte_din, end_din, abort_din)
+CONVERT(to_fire, 126, message_fire, byte_fire, start_fire, byte_fire, end_fire, abort_din)
+CONVERT(to_ble, 108, message_ble, real_time_ble, start_ble, byte_ble, end_ble, abort_din)
 
 // How many bytes of a packet its number uses, and the bytes of cable 0's packets as a byte line.
 static const byte uses[16] = {0, 0, 2, 3, 3, 1, 2, 3, 3, 3, 3, 3, 2, 2, 3, 1};
