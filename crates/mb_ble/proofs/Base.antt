@@ -7,7 +7,7 @@ use Rattle.mb_message.specs.Signs.{ShortSign, OpenSign, EndSign, AbortSign}
 use Rattle.mb_message.specs.declared.note.NoteKind.TheVariants.{StrayEnd, Undefined}
 use Rattle.mb_stream.specs.Payload.{Spot, Entry, Heard, Silent, heard_from}
 use Rattle.mb_stream.specs.Groups.{Group, is_sysex, last_of}
-use Rattle.mb_stream.specs.Told.{Known, known, Marks, Notes, stray, sysex_byte, one_of, odd_one, status_told, begun_at, truncated_at, sysex_ended, ended}
+use Rattle.mb_stream.specs.Told.{Known, known_at, Marks, Notes, stray, sysex_byte, one_of, odd_one, status_told, begun_at, truncated_at, sysex_ended, ended}
 use Rattle.mb_stream.specs.Order.{not_after, put_in, in_order}
 use Rattle.mb_stream.specs.Reading.{so_far}
 use Rattle.mb_stream.specs.Working.{pair_news, first_one_news, first_two_news, data_news_by, data_news, news_from, group_after, RisesFrom}
@@ -85,7 +85,7 @@ climb-told : (x : Spot) → Climb x.at 2 (status_told x)
 climb-told x = by (x.byte == 0xf0) (x.byte == 0xf6) ((x.byte == 0xf4) || (x.byte == 0xf5))
   where
     by : (sysex tune undefined : Bool) →
-        Climb x.at 2 (if sysex then known 3 x (Marks OpenSign) ∷ [] else (if tune then known 3 x (Marks (ShortSign 0xf6 0 0)) ∷ [] else (if undefined then known 3 x (Notes x.at Undefined) ∷ [] else [])))
+        Climb x.at 2 (if sysex then known_at 3 x (Marks OpenSign) ∷ [] else (if tune then known_at 3 x (Marks (ShortSign 0xf6 0 0)) ∷ [] else (if undefined then known_at 3 x (Notes x.at Undefined) ∷ [] else [])))
     by true tune undefined = (refl, omega arith, omega arith)
     by false true undefined = (refl, omega arith, omega arith)
     by false false true = (refl, omega arith, omega arith)
@@ -97,7 +97,7 @@ end_tells_nothing x e =
     subst (λ b. status_told (record { at = x.at; byte = b; moment = x.moment }) ≡ []) (sym same) refl
 
 climb-ended : (e7 op : Bool) (x : Spot) → (x.byte == 0xf7) ≡ e7 →
-    Climb x.at 1 ((if e7 then (if op then known 3 x (Marks EndSign) ∷ [] else known 3 x (Notes x.at StrayEnd) ∷ []) else (if op then known 2 x (Marks AbortSign) ∷ [] else [])) ++ status_told x)
+    Climb x.at 1 ((if e7 then (if op then known_at 3 x (Marks EndSign) ∷ [] else known_at 3 x (Notes x.at StrayEnd) ∷ []) else (if op then known_at 2 x (Marks AbortSign) ∷ [] else [])) ++ status_told x)
 climb-ended true true x e = rw (end_tells_nothing x e) (refl, omega arith, omega arith)
 climb-ended true false x e = rw (end_tells_nothing x e) (refl, omega arith, omega arith)
 climb-ended false true x e = (refl, omega arith, climb-told x)

@@ -18,7 +18,7 @@ use Rattle.mb_ble.specs.Packets.{Token, Stamp, Status, Data, Ends, byte_token, t
 use Rattle.mb_ble.specs.Reading.{lone, noted, unit_note}
 use Rattle.mb_ble.specs.News.{byte_news, token_news, news_from}
 use Rattle.mb_ble.specs.Content.{running_then, is_common, Hands, Took}
-use Rattle.mb_ble.specs.Stands.{is_heady, behind, last, NoStamp, StampIs, Holds, Read, Reads, MayRun}
+use Rattle.mb_ble.specs.Stands.{is_heady, token_behind, last, NoStamp, StampIs, Holds, Read, Reads, MayRun}
 use Rattle.mb_ble.specs.declared.content.Content.{Content}
 use Rattle.mb_ble.specs.declared.content.Head.{Head}
 use Rattle.mb_ble.specs.declared.content.Head.TheVariants as head
@@ -72,21 +72,21 @@ ready head.Inside was b before told room bytes e a inside may holds false low fr
 ready head.Inside was b before told room bytes e a inside may holds true low front =
     let s : NoStamp before holds.stamp = subst (λ h. StampIs h was.offset before holds.stamp) e holds.stamp_is in
     record {
-      kind = holds.kind was.offset b ∙ ap (λ h. byte_token was.offset (behind h) b) e ∙ ap (λ c. if c then Data was.offset b else Stamp was.offset (b % 128)) low;
+      kind = holds.kind was.offset b ∙ ap (λ h. byte_token was.offset (token_behind h) b) e ∙ ap (λ c. if c then Data was.offset b else Stamp was.offset (b % 128)) low;
       note = s.1 (may_run (last_of (payload before))) 0 was.offset ∙ sym s.0;
       byte = inl (refl, low);
     }
 ready (head.Stamped at) was b before told room bytes e a inside may holds false low front =
     let s : (holds.stamp ≡ []) × LoneIs was at before = subst (λ h. StampIs h was.offset before holds.stamp) e holds.stamp_is in
     record {
-      kind = holds.kind was.offset b ∙ ap (λ h. byte_token was.offset (behind h) b) e ∙ ap (λ c. if c then Data was.offset b else Status was.offset b) low;
+      kind = holds.kind was.offset b ∙ ap (λ h. byte_token was.offset (token_behind h) b) e ∙ ap (λ c. if c then Data was.offset b else Status was.offset b) low;
       note = sym s.0;
       byte = inr (refl, low);
     }
 ready (head.Stamped at) was b before told room bytes e a inside may holds true low front =
     let o : ℕ = was.offset in
     let s : (holds.stamp ≡ []) × LoneIs was at before = subst (λ h. StampIs h o before holds.stamp) e holds.stamp_is in
-    let k : byte_token o (last before) b ≡ Data o b = holds.kind o b ∙ ap (λ h. byte_token o (behind h) b) e ∙ ap (λ c. if c then Data o b else Status o b) low in
+    let k : byte_token o (last before) b ≡ Data o b = holds.kind o b ∙ ap (λ h. byte_token o (token_behind h) b) e ∙ ap (λ c. if c then Data o b else Status o b) low in
     let m : Bool = may_run (last_of (payload before)) in
     let ns : List Known = news (last_of (payload before)) (spot before o b) in
     let rest : List Known = news_from (Data o b ∷ before) (tokens (o + 1) (Data o b) (rest_parts room bytes)) in
@@ -122,12 +122,12 @@ ready head.Spent was b before told room bytes e a inside may holds c low front =
 
     by : (c : Bool) → nat_lt b 128 ≡ c → StampIs head.Spent was.offset before holds.stamp → Ready was b before holds.stamp (if c then Data was.offset b else Status was.offset b)
     by false low s =
-        let k : byte_token was.offset (last before) b ≡ Status was.offset b = holds.kind was.offset b ∙ ap (λ h. byte_token was.offset (behind h) b) e ∙ ap (λ c. if c then Data was.offset b else Status was.offset b) low in
+        let k : byte_token was.offset (last before) b ≡ Status was.offset b = holds.kind was.offset b ∙ ap (λ h. byte_token was.offset (token_behind h) b) e ∙ ap (λ c. if c then Data was.offset b else Status was.offset b) low in
         let rest : List Known = news_from (Status was.offset b ∷ before) (tokens (was.offset + 1) (Status was.offset b) (rest_parts room bytes)) in
         let whole : IsFront told (ns ++ rest) = subst (λ u. IsFront told (token_news before u ++ news_from (u ∷ before) (tokens (was.offset + 1) u (rest_parts room bytes)))) k front in
         absurd (either s.0 (ns ++ rest) s.1 whole (Each-append (Late was.offset) ns rest late-ns (later-late (Status was.offset b ∷ before) (Status was.offset b) was.offset room bytes)))
     by true low s =
-        let k : byte_token was.offset (last before) b ≡ Data was.offset b = holds.kind was.offset b ∙ ap (λ h. byte_token was.offset (behind h) b) e ∙ ap (λ c. if c then Data was.offset b else Status was.offset b) low in
+        let k : byte_token was.offset (last before) b ≡ Data was.offset b = holds.kind was.offset b ∙ ap (λ h. byte_token was.offset (token_behind h) b) e ∙ ap (λ c. if c then Data was.offset b else Status was.offset b) low in
         let rest : List Known = news_from (Data was.offset b ∷ before) (tokens (was.offset + 1) (Data was.offset b) (rest_parts room bytes)) in
         let m : Bool = may_run (last_of (payload before)) in
         let whole : IsFront told ((lone m 0 was.offset before ++ ns) ++ rest) = subst (λ u. IsFront told (token_news before u ++ news_from (u ∷ before) (tokens (was.offset + 1) u (rest_parts room bytes)))) k front in
@@ -308,7 +308,7 @@ took_law was mid now b left bs seen is_taken is hands took a inside may before t
           clock_is = clock_now ∙ sym l.clock_is;
           running_is = took.running ∙ ap (λ z. running_then b z) same_run ∙ sym l.running_is;
           runs = λ s e. subst (λ z. (is_channel s ≡ true) × (is_full (last_of z) ≡ false)) (sym l.payload_is) (runs-law b run es x refl (λ s e. (holds.runs s e).0) s (sym l.running_is ∙ e));
-          kind = λ at y. l.kind at y ∙ ap (λ h. byte_token at (behind h) y) (sym took.head);
+          kind = λ at y. l.kind at y ∙ ap (λ h. byte_token at (token_behind h) y) (sym took.head);
           stamp = [];
           early = [];
           told_is = refl;

@@ -23,7 +23,7 @@ use Rattle.mb_ble.specs.Packets.{Token, Begins, Header, Unheaded, Skipped, Stamp
 use Rattle.mb_ble.specs.Reading.{Cut, lone, noted, onto, cut_at, cut_told, unit_note, ble_known, ble_end, last_tokens}
 use Rattle.mb_ble.specs.News.{byte_news, token_news, news_from}
 use Rattle.mb_ble.specs.Content.{EndedBy}
-use Rattle.mb_ble.specs.Stands.{behind, last, StampIs, Holds, whole_at, BleStands, BleTells}
+use Rattle.mb_ble.specs.Stands.{token_behind, last, StampIs, Holds, whole_at, BleStands, BleTells}
 use Rattle.mb_ble.specs.declared.content.Content.{Content}
 use Rattle.mb_ble.specs.declared.content.Head.{Head}
 use Rattle.mb_ble.specs.declared.content.Head.TheVariants as head
@@ -163,7 +163,7 @@ end_stamp_tells was now input at moment seen fit e h same frames mom told = tell
           clock_is = holds.clock_is;
           running_is = holds.running_is;
           runs = holds.runs;
-          kind = λ x y. holds.kind x y ∙ ap (λ k. byte_token x (behind k) y) h;
+          kind = λ x y. holds.kind x y ∙ ap (λ k. byte_token x (token_behind k) y) h;
           stamp = note ∷ [];
           early = [];
           told_is = ap (λ z. z ++ note ∷ []) none;
@@ -250,7 +250,7 @@ end_groups_tells was now input moment seen fit e no_stamp ended frames mom = tel
             clock_is = ended.clock ∙ holds.clock_is;
             running_is = ended.running;
             runs = λ s e. absurd (none_some s e);
-            kind = λ x y. ap (λ k. byte_token x (behind k) y) (sym ended.head);
+            kind = λ x y. ap (λ k. byte_token x (token_behind k) y) (sym ended.head);
             stamp = [];
             early = [];
             told_is = refl;

@@ -11,7 +11,7 @@ use Rattle.mb_stream.proofs.OrderLemmas.{Each-append}
 use Rattle.mb_stream.specs.Groups.{Group, is_sysex, last_of}
 use Rattle.mb_stream.specs.Payload.{Spot, Entry, Heard, Silent}
 use Rattle.mb_stream.specs.Reading.{part_of, so_far}
-use Rattle.mb_stream.specs.Told.{Told, Marks, Notes, Known, known, begun_at, truncated_at, truncated, ended, status_told, realtime_known, stray, sysex_byte, one_of, odd_one}
+use Rattle.mb_stream.specs.Told.{Told, Marks, Notes, Known, known_at, begun_at, truncated_at, truncated, ended, status_told, realtime_known, stray, sysex_byte, one_of, odd_one}
 use Rattle.mb_stream.specs.Working.{data_news_by, data_news, news, pair_news, first_one_news, first_two_news, channel_news, common_news}
 use Rattle.mb_ble.specs.Packets.{Token}
 use Rattle.mb_ble.specs.Reading.{unit_note}
@@ -111,7 +111,7 @@ climb-fact : (x : Spot) (low : ℕ) (ks : List Known) → 2 ≤ low → Climb x.
 climb-fact x low [] le c = tt
 climb-fact x low (k ∷ ks) le c = (record { at = c.0; rank = omega (arith, c.1); common = λ h. absurd (omega (arith, c.1, h)) }, climb-fact x k.rank ks (omega (arith, c.1)) c.2)
 
-fact : (x : Spot) (rank : ℕ) (t : Told) → 0 < rank → (rank < 3 → is_common (t ∷ []) ≡ false) → Fact x (known rank x t)
+fact : (x : Spot) (rank : ℕ) (t : Told) → 0 < rank → (rank < 3 → is_common (t ∷ []) ≡ false) → Fact x (known_at rank x t)
 fact x rank t a b = record { at = refl; rank = a; common = b }
 
 late : (rank : ℕ) (t : Told) → 3 ≤ rank → rank < 3 → is_common (t ∷ []) ≡ false
@@ -120,10 +120,10 @@ late rank t a b = absurd (omega arith)
 pub facts : (g : Group) (x : Spot) → Each (Fact x) (news g x)
 facts g x = by (is_realtime x.byte) (is_data x.byte)
   where
-    one : (t : Told) → Fact x (known 3 x t)
+    one : (t : Told) → Fact x (known_at 3 x t)
     one t = fact x 3 t (omega arith) (late 3 t (omega arith))
 
-    told : (a b c : Bool) → Each (Fact x) (if a then known 3 x (Marks OpenSign) ∷ [] else (if b then known 3 x (Marks (ShortSign 0xf6 0 0)) ∷ [] else (if c then known 3 x (Notes x.at Undefined) ∷ [] else [])))
+    told : (a b c : Bool) → Each (Fact x) (if a then known_at 3 x (Marks OpenSign) ∷ [] else (if b then known_at 3 x (Marks (ShortSign 0xf6 0 0)) ∷ [] else (if c then known_at 3 x (Notes x.at Undefined) ∷ [] else [])))
     told true b c = (one (Marks OpenSign), tt)
     told false true c = (one (Marks (ShortSign 0xf6 0 0)), tt)
     told false false true = (one (Notes x.at Undefined), tt)
@@ -133,7 +133,7 @@ facts g x = by (is_realtime x.byte) (is_data x.byte)
     cut None = tt
     cut (Some at) = (fact x 1 (Notes at Truncated) (omega arith) (λ h. refl), tt)
 
-    ends : (e7 op : Bool) → Each (Fact x) (if e7 then (if op then known 3 x (Marks EndSign) ∷ [] else known 3 x (Notes x.at StrayEnd) ∷ []) else (if op then known 2 x (Marks AbortSign) ∷ [] else []))
+    ends : (e7 op : Bool) → Each (Fact x) (if e7 then (if op then known_at 3 x (Marks EndSign) ∷ [] else known_at 3 x (Notes x.at StrayEnd) ∷ []) else (if op then known_at 2 x (Marks AbortSign) ∷ [] else []))
     ends true true = (one (Marks EndSign), tt)
     ends true false = (one (Notes x.at StrayEnd), tt)
     ends false true = (fact x 2 (Marks AbortSign) (omega arith) (λ h. refl), tt)
@@ -143,7 +143,7 @@ facts g x = by (is_realtime x.byte) (is_data x.byte)
     by true da = (one (if is_undefined_realtime x.byte then Notes x.at Undefined else Marks (RtSign x.byte)), tt)
     by false true = climb-fact x 2 (data_news g.status g.data_bytes x) (omega arith) (climb-data g.status g.data_bytes x)
     by false false = Each-append (Fact x) (ended g x) (status_told x)
-        (Each-append (Fact x) (truncated g x) (if x.byte == 0xf7 then (if is_sysex g then known 3 x (Marks EndSign) ∷ [] else known 3 x (Notes x.at StrayEnd) ∷ []) else (if is_sysex g then known 2 x (Marks AbortSign) ∷ [] else [])) (cut (begun_at g)) (ends (x.byte == 0xf7) (is_sysex g)))
+        (Each-append (Fact x) (truncated g x) (if x.byte == 0xf7 then (if is_sysex g then known_at 3 x (Marks EndSign) ∷ [] else known_at 3 x (Notes x.at StrayEnd) ∷ []) else (if is_sysex g then known_at 2 x (Marks AbortSign) ∷ [] else [])) (cut (begun_at g)) (ends (x.byte == 0xf7) (is_sysex g)))
         (told (x.byte == 0xf0) (x.byte == 0xf6) ((x.byte == 0xf4) || (x.byte == 0xf5)))
 
 pub each-front : (P : Known → Type 0) (xs ys : List Known) → Each P (xs ++ ys) → Each P xs
@@ -221,7 +221,7 @@ timely-data (Some s) ds x = by (s == 0xf0)
 pub timely : (g : Group) (x : Spot) → Each (Timely x.moment) (news g x)
 timely g x = by (is_realtime x.byte) (is_data x.byte)
   where
-    told : (a b c : Bool) → Each (Timely x.moment) (if a then known 3 x (Marks OpenSign) ∷ [] else (if b then known 3 x (Marks (ShortSign 0xf6 0 0)) ∷ [] else (if c then known 3 x (Notes x.at Undefined) ∷ [] else [])))
+    told : (a b c : Bool) → Each (Timely x.moment) (if a then known_at 3 x (Marks OpenSign) ∷ [] else (if b then known_at 3 x (Marks (ShortSign 0xf6 0 0)) ∷ [] else (if c then known_at 3 x (Notes x.at Undefined) ∷ [] else [])))
     told true b c = (refl, tt)
     told false true c = (refl, tt)
     told false false true = (refl, tt)
@@ -231,7 +231,7 @@ timely g x = by (is_realtime x.byte) (is_data x.byte)
     cut None = tt
     cut (Some at) = (refl, tt)
 
-    ends : (e7 op : Bool) → Each (Timely x.moment) (if e7 then (if op then known 3 x (Marks EndSign) ∷ [] else known 3 x (Notes x.at StrayEnd) ∷ []) else (if op then known 2 x (Marks AbortSign) ∷ [] else []))
+    ends : (e7 op : Bool) → Each (Timely x.moment) (if e7 then (if op then known_at 3 x (Marks EndSign) ∷ [] else known_at 3 x (Notes x.at StrayEnd) ∷ []) else (if op then known_at 2 x (Marks AbortSign) ∷ [] else []))
     ends true true = (refl, tt)
     ends true false = (refl, tt)
     ends false true = (refl, tt)
@@ -241,5 +241,5 @@ timely g x = by (is_realtime x.byte) (is_data x.byte)
     by true da = (refl, tt)
     by false true = timely-data g.status g.data_bytes x
     by false false = Each-append (Timely x.moment) (ended g x) (status_told x)
-        (Each-append (Timely x.moment) (truncated g x) (if x.byte == 0xf7 then (if is_sysex g then known 3 x (Marks EndSign) ∷ [] else known 3 x (Notes x.at StrayEnd) ∷ []) else (if is_sysex g then known 2 x (Marks AbortSign) ∷ [] else [])) (cut (begun_at g)) (ends (x.byte == 0xf7) (is_sysex g)))
+        (Each-append (Timely x.moment) (truncated g x) (if x.byte == 0xf7 then (if is_sysex g then known_at 3 x (Marks EndSign) ∷ [] else known_at 3 x (Notes x.at StrayEnd) ∷ []) else (if is_sysex g then known_at 2 x (Marks AbortSign) ∷ [] else [])) (cut (begun_at g)) (ends (x.byte == 0xf7) (is_sysex g)))
         (told (x.byte == 0xf0) (x.byte == 0xf6) ((x.byte == 0xf4) || (x.byte == 0xf5)))

@@ -6,8 +6,8 @@ use Rattle.mb_ble.proofs.Base.{IsLen, len_lem}
 use Rattle.mb_message.specs.Bytes.{is_channel, data_length, is_data, is_realtime, is_undefined_realtime}
 use Rattle.mb_stream.specs.Groups.{Group, begun, longer, is_sysex}
 use Rattle.mb_stream.specs.Payload.{Spot, Heard}
-use Rattle.mb_stream.specs.Told.{Told, Marks, Notes, Known, known, odd_one, begun_at, truncated_at, sysex_ended, truncated, ended, status_told, realtime_known, sysex_byte, one_of}
-use Rattle.mb_stream.specs.Working.{data_news_by, data_news, news, behind, pair_news, common_news}
+use Rattle.mb_stream.specs.Told.{Told, Marks, Notes, Known, known_at, odd_one, begun_at, truncated_at, sysex_ended, truncated, ended, status_told, realtime_known, sysex_byte, one_of}
+use Rattle.mb_stream.specs.Working.{data_news_by, data_news, news, group_behind, pair_news, common_news}
 use Rattle.mb_message.specs.Signs.{ShortSign, RtSign, OpenSign, EndSign, AbortSign}
 use Rattle.mb_message.specs.declared.note.NoteKind.TheVariants.{StrayEnd, Undefined}
 use Rattle.mb_ble.specs.Packets.{is_full}
@@ -103,7 +103,7 @@ ended-quiet : (g : Group) (x : Spot) → common (ended g x) ≡ false
 ended-quiet g x = ap is_common (tolds-append (truncated g x) (sysex_ended (is_sysex g) x)) ∙ common-append (tolds (truncated g x)) (tolds (sysex_ended (is_sysex g) x)) ∙ ors (begun_at g) (x.byte == 0xf7) (is_sysex g)
   where
     ors : (o : Option ℕ) (e7 op : Bool) → (common (truncated_at o x)
-        || common (if e7 then (if op then known 3 x (Marks EndSign) ∷ [] else known 3 x (Notes x.at StrayEnd) ∷ []) else (if op then known 2 x (Marks AbortSign) ∷ [] else []))) ≡ false
+        || common (if e7 then (if op then known_at 3 x (Marks EndSign) ∷ [] else known_at 3 x (Notes x.at StrayEnd) ∷ []) else (if op then known_at 2 x (Marks AbortSign) ∷ [] else []))) ≡ false
     ors None true true = refl
     ors None true false = refl
     ors None false true = refl
@@ -126,7 +126,7 @@ status-full x = by (x.byte == 0xf0) (x.byte == 0xf6) ((x.byte == 0xf4) || (x.byt
     none : (x.byte == 0xf6) ≡ false → (not (is_channel x.byte) && len_full (data_length x.byte) 0) ≡ false
     none n = zero-len (is_channel x.byte) (nat_le 192 x.byte && nat_lt x.byte 224) ((x.byte == 0xf1) || (x.byte == 0xf3)) (x.byte == 0xf2) (x.byte == 0xf6) n
 
-    by : (a b c : Bool) → (x.byte == 0xf0) ≡ a → (x.byte == 0xf6) ≡ b → (not (is_channel x.byte) && len_full (data_length x.byte) 0) ≡ common (if a then known 3 x (Marks OpenSign) ∷ [] else (if b then known 3 x (Marks (ShortSign 0xf6 0 0)) ∷ [] else (if c then known 3 x (Notes x.at Undefined) ∷ [] else [])))
+    by : (a b c : Bool) → (x.byte == 0xf0) ≡ a → (x.byte == 0xf6) ≡ b → (not (is_channel x.byte) && len_full (data_length x.byte) 0) ≡ common (if a then known_at 3 x (Marks OpenSign) ∷ [] else (if b then known_at 3 x (Marks (ShortSign 0xf6 0 0)) ∷ [] else (if c then known_at 3 x (Notes x.at Undefined) ∷ [] else [])))
     by true b c e f = none (not-both x.byte e)
       where
         not-both : (n : ℕ) → (n == 0xf0) ≡ true → (n == 0xf6) ≡ false
@@ -138,7 +138,7 @@ status-full x = by (x.byte == 0xf0) (x.byte == 0xf6) ((x.byte == 0xf4) || (x.byt
     by false false true e f = none f
     by false false false e f = none f
 
-pub full_law : (g : Group) (x : Spot) → is_full g ≡ false → is_full (behind g (Heard x)) ≡ common (news g x)
+pub full_law : (g : Group) (x : Spot) → is_full g ≡ false → is_full (group_behind g (Heard x)) ≡ common (news g x)
 full_law g x h = by (is_realtime x.byte) (is_data x.byte)
   where
     rt-quiet : (c : Bool) → is_common ((if c then Notes x.at Undefined else Marks (RtSign x.byte)) ∷ []) ≡ false

@@ -10,7 +10,7 @@ use Rattle.mb_stream.specs.Puts.{Put, At, Flush, puts_at}
 use Rattle.mb_stream.specs.Spelling.{data_of}
 use Rattle.mb_ble.specs.Written.{Spelled, in_front, runs, is_left_out, spelling, spelling_at, content, ends, packets_from, packets, packet_bytes, ended, but_last, live_of, ble_written, ble_live}
 use Rattle.mb_ble.specs.Running.{flushed, given_at, under_way_at, live_from, under_way_from, live, under_way}
-use Rattle.mb_ble.specs.UnderWay.{Packet, nothing, packet_of, Holds, ends_in, flushed_in, added, is_abort, after_mark, given_in, spelled_at, after_all, given_all}
+use Rattle.mb_ble.specs.UnderWay.{OpenPacket, nothing, packet_of, Holds, ends_in, flushed_in, added, is_abort, after_mark, given_in, spelled_at, after_all, given_all}
 
 abbrev NoAbort : List Spelled → Type 0
 NoAbort before = AllByRecursion (λ (x : Spelled). is_abort x.mark ≡ false) before
@@ -110,7 +110,7 @@ mark_in n before moment mark false e none =
 pub first : (size : ℕ) → Holds (nothing size) []
 first size = record { packet = refl }
 
-pub marked : (old : Packet) (puts : List Put) (moment : ℕ) (mark : Sign) → Holds old puts → let x : Spelled = record { moment = moment; mark = mark } in
+pub marked : (old : OpenPacket) (puts : List Put) (moment : ℕ) (mark : Sign) → Holds old puts → let x : Spelled = record { moment = moment; mark = mark } in
     Holds (after_mark old x) (puts ++ At moment mark ∷ []) × (live old.size (puts ++ At moment mark ∷ []) ≡ live old.size puts ++ given_in old x)
 marked old puts moment mark stands =
     let n : ℕ = old.size in
@@ -118,12 +118,12 @@ marked old puts moment mark stands =
     let x : Spelled = record { moment = moment; mark = mark } in
     let step = mark_in n before moment mark (is_abort mark) refl (NoAbort-from n [] puts tt) in
     let state : after_mark old x ≡ packet_of n (under_way n (puts ++ At moment mark ∷ [])) = ap (λ w. after_mark w x) stands.packet ∙ step.0 ∙ ap (packet_of n) (sym (under_way-push n [] puts (At moment mark))) in
-    let size : (after_mark old x).size ≡ n = ap (λ (w : Packet). w.size) state in (
+    let size : (after_mark old x).size ≡ n = ap (λ (w : OpenPacket). w.size) state in (
       record { packet = state ∙ ap (λ k. packet_of k (under_way k (puts ++ At moment mark ∷ []))) (sym size) },
       live-push n [] puts (At moment mark) ∙ ap (λ z. live n puts ++ z) (sym (ap (λ w. given_in w x) stands.packet ∙ step.1)),
     )
 
-pub flush : (old : Packet) (puts : List Put) → Holds old puts →
+pub flush : (old : OpenPacket) (puts : List Put) → Holds old puts →
     Holds (nothing old.size) (puts ++ Flush ∷ []) × (live old.size (puts ++ Flush ∷ []) ≡ live old.size puts ++ flushed_in old)
 flush old puts stands =
     let n : ℕ = old.size in (
@@ -223,7 +223,7 @@ of_runs-all n (Flush ∷ puts) before =
 of_runs-all n (At moment mark ∷ puts) before = at_mark n before moment mark puts (is_abort mark) refl (of_runs-all n puts)
 
 -- all that is written is what was written so far and the packet under way
-pub finish : (old : Packet) (puts : List Put) → Holds old puts → ble_written old.size puts ≡ live old.size puts ++ flushed_in old
+pub finish : (old : OpenPacket) (puts : List Put) → Holds old puts → ble_written old.size puts ≡ live old.size puts ++ flushed_in old
 finish old puts stands =
     let n : ℕ = old.size in
     of_runs-nil n (runs puts) ∙ of_runs-all n puts []
@@ -233,7 +233,7 @@ finish old puts stands =
 puts-more : (puts : List Put) (moment : ℕ) (m : Sign) (ms : List Sign) → (puts ++ At moment m ∷ []) ++ puts_at moment ms ≡ puts ++ puts_at moment (m ∷ ms)
 puts-more puts moment m ms = append_assoc puts (At moment m ∷ []) (puts_at moment ms)
 
-size_same : (w : Packet) (moment : ℕ) (m : Sign) → (after_mark w (spelled_at moment m)).size ≡ w.size
+size_same : (w : OpenPacket) (moment : ℕ) (m : Sign) → (after_mark w (spelled_at moment m)).size ≡ w.size
 size_same w moment m = by (is_abort m) (ends_in w (spelled_at moment m))
   where
     by : (a e : Bool) → (if a then w else (if e then added (nothing w.size) (spelled_at moment m) else added w (spelled_at moment m))).size ≡ w.size
@@ -241,16 +241,16 @@ size_same w moment m = by (is_abort m) (ends_in w (spelled_at moment m))
     by false true = refl
     by false false = refl
 
-pub size_all : (w : Packet) (moment : ℕ) (ms : List Sign) → (after_all w moment ms).size ≡ w.size
+pub size_all : (w : OpenPacket) (moment : ℕ) (ms : List Sign) → (after_all w moment ms).size ≡ w.size
 size_all w moment [] = refl
 size_all w moment (m ∷ ms) = size_all (after_mark w (spelled_at moment m)) moment ms ∙ size_same w moment m
 
-pub all_hold : (old : Packet) (puts : List Put) (moment : ℕ) (ms : List Sign) → Holds old puts →
+pub all_hold : (old : OpenPacket) (puts : List Put) (moment : ℕ) (ms : List Sign) → Holds old puts →
     Holds (after_all old moment ms) (puts ++ puts_at moment ms) × ((after_all old moment ms).size ≡ old.size) × (live old.size (puts ++ puts_at moment ms) ≡ live old.size puts ++ given_all old moment ms)
 all_hold old puts moment [] h = (subst (Holds old) (sym (append-nil puts)) h, refl, ap (live old.size) (append-nil puts) ∙ sym (append-nil (live old.size puts)))
 all_hold old puts moment (m ∷ ms) h =
     let one = marked old puts moment m h in
-    let next : Packet = after_mark old (spelled_at moment m) in
+    let next : OpenPacket = after_mark old (spelled_at moment m) in
     let size : next.size ≡ old.size = size_same old moment m in
     let more = all_hold next (puts ++ At moment m ∷ []) moment ms one.0 in (
       subst (Holds (after_all next moment ms)) (puts-more puts moment m ms) more.0,

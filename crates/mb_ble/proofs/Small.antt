@@ -17,7 +17,7 @@ use Rattle.mb_ble.specs.Packets.{Token, Header, Unheaded, Skipped, Stamp, Status
 use Rattle.mb_ble.specs.Reading.{lone, noted}
 use Rattle.mb_ble.specs.News.{token_news, news_from}
 use Rattle.mb_ble.specs.Content.{headed_by, headed, headed_told_by, headed_told, stamped_at}
-use Rattle.mb_ble.specs.Stands.{is_heady, behind, last, NoStamp, StampIs, Holds, Read, Reads}
+use Rattle.mb_ble.specs.Stands.{is_heady, token_behind, last, NoStamp, StampIs, Holds, Read, Reads}
 use Rattle.mb_ble.specs.declared.content.Content.{Content}
 use Rattle.mb_ble.specs.declared.content.Head.{Head}
 use Rattle.mb_ble.specs.declared.content.Head.TheVariants as head
@@ -83,7 +83,7 @@ rest_stands now before told h e = subst (λ z. Stands now.din (payload before) z
 
 -- all is told behind a token that leaves the groups as they are
 pub holds-quiet : (was now : Content) (t : Token) (before : List Token) (told : List Known) (h : Holds was before told) → h.early ≡ [] → payload (t ∷ before) ≡ payload before → running (t ∷ before) ≡ running before →
-    now.clock ≡ clock (t ∷ before) → now.running ≡ was.running → now.din ≡ was.din → was.offset ≤ now.offset → ((at b : ℕ) → byte_token at t b ≡ byte_token at (behind now.head) b) → StampIs now.head now.offset (t ∷ before) [] → Holds now (t ∷ before) []
+    now.clock ≡ clock (t ∷ before) → now.running ≡ was.running → now.din ≡ was.din → was.offset ≤ now.offset → ((at b : ℕ) → byte_token at t b ≡ byte_token at (token_behind now.head) b) → StampIs now.head now.offset (t ∷ before) [] → Holds now (t ∷ before) []
 holds-quiet was now t before told h none p q c r d le k s = record {
   clock_is = c;
   running_is = r ∙ h.running_is ∙ sym q;
@@ -123,9 +123,9 @@ head_reads head.Skip was b bs e a z before told room following holds =
     let s : NoStamp before holds.stamp = subst (λ h. StampIs h was.offset before holds.stamp) e holds.stamp_is in
     let none : told ≡ [] = no_told was before told holds s.0 early in
     let now : Content = record was { offset = was.offset + 1 } in
-    read-one was now b bs [] before told room following Skipped [] [] (holds.kind was.offset b ∙ ap (λ h. byte_token was.offset (behind h) b) e) refl
-    (holds-quiet was now Skipped before told holds early refl refl holds.clock_is refl refl (omega arith) (λ at x. ap (λ h. byte_token at (behind h) x) (sym e)) (subst (λ h. StampIs h (was.offset + 1) (Skipped ∷ before) []) (sym e) (refl, λ low rank ka. refl))) refl (append-nil told ∙ none) (nothing _)
-head_reads head.Header was b bs e a z before told room following holds = by (nat_lt b 128) (holds.kind was.offset b ∙ ap (λ h. byte_token was.offset (behind h) b) e)
+    read-one was now b bs [] before told room following Skipped [] [] (holds.kind was.offset b ∙ ap (λ h. byte_token was.offset (token_behind h) b) e) refl
+    (holds-quiet was now Skipped before told holds early refl refl holds.clock_is refl refl (omega arith) (λ at x. ap (λ h. byte_token at (token_behind h) x) (sym e)) (subst (λ h. StampIs h (was.offset + 1) (Skipped ∷ before) []) (sym e) (refl, λ low rank ka. refl))) refl (append-nil told ∙ none) (nothing _)
+head_reads head.Header was b bs e a z before told room following holds = by (nat_lt b 128) (holds.kind was.offset b ∙ ap (λ h. byte_token was.offset (token_behind h) b) e)
   where
     early : holds.early ≡ []
     early = holds.rested (ap is_heady e)
@@ -168,7 +168,7 @@ stamp_law was now input left b e a high n = reads-first was now input left b [] 
   where
     by : (before : List Token) (told : List Known) (room : ℕ) (following : List ℕ) → Holds was before told → IsFront told (news_from before (tokens was.offset (last before) (rest_parts (suc room) (b ∷ (left ++ following))))) → Read was (stamped_at was b) (b ∷ left) left [] before told (suc room) following
     by before told room following holds front =
-        let k : byte_token was.offset (last before) b ≡ Stamp was.offset (b % 128) = holds.kind was.offset b ∙ ap (λ h. byte_token was.offset (behind h) b) a ∙ ap (λ c. if c then Data was.offset b else Stamp was.offset (b % 128)) high in
+        let k : byte_token was.offset (last before) b ≡ Stamp was.offset (b % 128) = holds.kind was.offset b ∙ ap (λ h. byte_token was.offset (token_behind h) b) a ∙ ap (λ c. if c then Data was.offset b else Stamp was.offset (b % 128)) high in
         let t : Token = Stamp was.offset (b % 128) in
         let s : NoStamp before holds.stamp = subst (λ h. StampIs h was.offset before holds.stamp) a holds.stamp_is in
         let is : told ≡ holds.early = holds.told_is ∙ ap (λ z. z ++ holds.early) s.0 in
@@ -191,7 +191,7 @@ lone_law was now input left b at may e a low is_no law n = record {
     by before told zero following holds fits front = absurd (omega arith)
     by before told (suc room) following holds fits front =
         let o : ℕ = was.offset in
-        let k : byte_token o (last before) b ≡ Data o b = holds.kind o b ∙ ap (λ h. byte_token o (behind h) b) a ∙ ap (λ c. if c then Data o b else Status o b) low in
+        let k : byte_token o (last before) b ≡ Data o b = holds.kind o b ∙ ap (λ h. byte_token o (token_behind h) b) a ∙ ap (λ c. if c then Data o b else Status o b) low in
         let s : (holds.stamp ≡ []) × ((low : Bool) (rank known_at : ℕ) → lone low rank known_at before ≡ (if low then [] else noted rank (clock before).moment known_at at LoneStamp ∷ [])) = subst (λ h. StampIs h o before holds.stamp) a holds.stamp_is in
         let is : told ≡ holds.early = holds.told_is ∙ ap (λ z. z ++ holds.early) s.0 in
         let m : Bool = may_run (last_of (payload before)) in
@@ -211,7 +211,7 @@ lone_law was now input left b at may e a low is_no law n = record {
           clock_is = holds.clock_is;
           running_is = holds.running_is;
           runs = holds.runs;
-          kind = λ x y. holds.kind x y ∙ ap (λ h. byte_token x (behind h) y) a;
+          kind = λ x y. holds.kind x y ∙ ap (λ h. byte_token x (token_behind h) y) a;
           stamp = note ∷ [];
           early = [];
           told_is = ap (λ z. z ++ note ∷ []) none;

@@ -9,7 +9,7 @@ use Rattle.mb_stream.proofs.EventLemmas.{open_from-event}
 use Rattle.mb_stream.proofs.StandingLemmas.{joined, is_open-append, open_from}
 use Rattle.mb_stream.proofs.PutsLemmas.{signs_in-more, signs_in-flush}
 use Rattle.mb_ble.specs.Written.{ble_live, ble_written}
-use Rattle.mb_ble.specs.UnderWay.{Packet, Holds, nothing, flushed_in, after_all, given_all}
+use Rattle.mb_ble.specs.UnderWay.{OpenPacket, Holds, nothing, flushed_in, after_all, given_all}
 use Rattle.mb_ble.specs.Writer.{Stands}
 use Rattle.mb_ble.specs.Writer.{Writer}
 use Rattle.mb_ble.proofs.Live.{all_hold, flush, finish, live_law}
@@ -18,7 +18,7 @@ pub stands-new : (w : Writer) (size : ℕ) → w.packet ≡ nothing size → w.i
 stands-new w size p o = record {
   each_suits = refl;
   open_now = o;
-  holds = record { packet = p ∙ ap nothing (sym (ap (λ (q : Packet). q.size) p)) };
+  holds = record { packet = p ∙ ap nothing (sym (ap (λ (q : OpenPacket). q.size) p)) };
 }
 
 pub stands-put : (old new : Writer) (moment : ℕ) (e : Ev) (puts : List Put) → suits_event old.in_sysex e ≡ true →
@@ -31,7 +31,7 @@ stands-put old new moment e puts suits opened packet s =
       open_now =
           opened ∙ sym (open_from-event old.in_sysex e suits) ∙
           ap (λ (o : Bool). open_from o (signs_of_event e)) s.open_now ∙ sym (is_open-append (signs_in puts) (signs_of_event e)) ∙ ap is_open (sym more);
-      holds = subst (λ (p : Packet). Holds p (puts ++ puts_at moment (signs_of_event e))) (sym packet) (all_hold old.packet puts moment (signs_of_event e) s.holds).0;
+      holds = subst (λ (p : OpenPacket). Holds p (puts ++ puts_at moment (signs_of_event e))) (sym packet) (all_hold old.packet puts moment (signs_of_event e) s.holds).0;
     }
 
 pub live-more : (w : Writer) (moment : ℕ) (ms : List Sign) (puts : List Put) (old new : List ℕ) → new ≡ old ++ given_all w.packet moment ms → Stands w puts →
@@ -52,7 +52,7 @@ stands-flush old new puts opened packet s =
     record {
       each_suits = ap suited same ∙ s.each_suits;
       open_now = opened ∙ s.open_now ∙ ap is_open (sym same);
-      holds = subst (λ (p : Packet). Holds p (puts ++ Flush ∷ [])) (sym packet) (flush old.packet puts s.holds).0;
+      holds = subst (λ (p : OpenPacket). Holds p (puts ++ Flush ∷ [])) (sym packet) (flush old.packet puts s.holds).0;
     }
 
 pub live-flush : (w : Writer) (puts : List Put) (old new : List ℕ) → new ≡ old ++ flushed_in w.packet → Stands w puts →

@@ -19,7 +19,7 @@ use Rattle.mb_ble.specs.Packets.{Token, Begins, Ends, byte_token, tokens, clock,
 use Rattle.mb_ble.specs.Reading.{noted, onto, unit_note, ble_known, whole_from, ble_whole}
 use Rattle.mb_ble.specs.News.{token_news, news_from}
 use Rattle.mb_ble.specs.Content.{empty_told}
-use Rattle.mb_ble.specs.Stands.{is_heady, behind, last, NoStamp, StampIs, Holds, Read, Reads, Counts, whole_at, BleStands, BleTells, BleAllTold}
+use Rattle.mb_ble.specs.Stands.{is_heady, token_behind, last, NoStamp, StampIs, Holds, Read, Reads, Counts, whole_at, BleStands, BleTells, BleAllTold}
 use Rattle.mb_ble.specs.declared.content.Content.{Content}
 use Rattle.mb_ble.specs.declared.content.Head.{Head}
 use Rattle.mb_ble.specs.declared.content.Head.TheVariants as head
@@ -243,7 +243,7 @@ starts now f o h c r d l = record {
     clock_is = c;
     running_is = r;
     runs = λ s e. absurd (none_some s e);
-    kind = λ at b. ap (λ k. byte_token at (behind k) b) (sym h);
+    kind = λ at b. ap (λ k. byte_token at (token_behind k) b) (sym h);
     stamp = [];
     early = [];
     told_is = refl;

@@ -53,13 +53,13 @@ is_heady (head.Stamped at) = false
 is_heady head.Spent = false
 
 -- a token behind which a byte is what it is here
-abbrev pub behind : Head → Token
-behind head.Between = Ends 0
-behind head.Header = Begins 0 0
-behind head.Skip = Skipped
-behind head.Inside = Ends 0
-behind (head.Stamped at) = Stamp at 0
-behind head.Spent = Stamp 0 0
+abbrev pub token_behind : Head → Token
+token_behind head.Between = Ends 0
+token_behind head.Header = Begins 0 0
+token_behind head.Skip = Skipped
+token_behind head.Inside = Ends 0
+token_behind (head.Stamped at) = Stamp at 0
+token_behind head.Spent = Stamp 0 0
 
 abbrev pub last : List Token → Token
 last [] = Ends 0
@@ -96,7 +96,7 @@ pub record Holds (now : Content) (before : List Token) (told : List Known) : Typ
   pub clock_is : now.clock ≡ clock before
   pub running_is : now.running ≡ running before
   pub runs : (s : ℕ) → running before ≡ Some s → (is_channel s ≡ true) × (is_full (last_of (payload before)) ≡ false)
-  pub kind : (at b : ℕ) → byte_token at (last before) b ≡ byte_token at (behind now.head) b
+  pub kind : (at b : ℕ) → byte_token at (last before) b ≡ byte_token at (token_behind now.head) b
   pub stamp : List Known
   pub early : List Known
   pub told_is : told ≡ stamp ++ early

@@ -16,7 +16,7 @@ use Rattle.mb_message.specs.Front.{IsFront}
 use Rattle.mb_stream.specs.Reading.{told_signs}
 use Rattle.mb_carrier.specs.Carrier.{known, puts_known, puts_so_far, live}
 use Rattle.mb_carrier.specs.Hop.{Puts, HopStands, HaveMoment, MayCome, seen_signs}
-use Rattle.mb_carrier.specs.Fill.{PutSome, Flows, Through, AllAt, More}
+use Rattle.mb_carrier.specs.Fill.{PutSome, Flows, UsedUp, AllAt, More}
 use Rattle.mb_carrier.specs.declared.spec.Spec.{Spec}
 use Rattle.mb_carrier.proofs.PutLemmas.{puts_known-append, puts_known-at, puts_at-append, puts-all, moments-left}
 use Rattle.mb_carrier.proofs.ReadingLemmas.{Goes, goes-spec, Reads, suited-so_far, puts-front, told_signs-seen}
@@ -306,7 +306,7 @@ pub flows-done : (s other t : Spec) (moments : ℕ → ℕ) (moment : ℕ) (apar
     ((b : List ℕ) (k : List Known) → was b k → IsFront k (known other (b ++ rest)) → k ≡ known other (b ++ rest)) →
     left ≡ [] →
     FlowsMore s t moments moment apart at was writer bytes rest [] puts base held →
-    More apart at puts (λ ps. Through s t moments now writer bytes ps base held)
+    More apart at puts (λ ps. UsedUp s t moments now writer bytes ps base held)
 flows-done s other t moments moment apart at was now time writer bytes rest left puts base held same goes all_told none more =
     let f = more.2 in
     let ps : List Put = puts ++ more.0 in
@@ -371,18 +371,18 @@ pub fill-done : (s t other : Spec) (moments : ℕ → ℕ) (moment : ℕ) (apart
     (puts : List Put) (base held kept : List ℕ) →
     m ≡ at → other ≡ t → FlowsMore s t moments moment apart at reader writer bytes rest [] puts base held →
     ((ps : List Put) → Flows s other moments moment reader writer bytes rest [] ps base held →
-    More apart m ps (λ qs. Through s other moments reader_now writer_now bytes qs base kept)) →
-    More apart at puts (λ qs. Through s t moments reader_now writer_now bytes qs base kept)
+    More apart m ps (λ qs. UsedUp s other moments reader_now writer_now bytes qs base kept)) →
+    More apart at puts (λ qs. UsedUp s t moments reader_now writer_now bytes qs base kept)
 fill-done s t other moments moment apart at m reader reader_now writer writer_now bytes rest puts base held kept is same f goes =
     let ps : List Put = puts ++ f.0 in
     let a = subst (λ (k : ℕ). More apart k ps
-    (λ qs. Through s other moments reader_now writer_now bytes qs base kept)) is
+    (λ qs. UsedUp s other moments reader_now writer_now bytes qs base kept)) is
     (goes ps (flows-spec s t other moments moment reader writer bytes rest [] ps base held same f.2)) in
     let b = subst (λ (u : Spec). More apart at ps
-    (λ qs. Through s u moments reader_now writer_now bytes qs base kept)) same a in (
+    (λ qs. UsedUp s u moments reader_now writer_now bytes qs base kept)) same a in (
       f.0 ++ b.0,
       all_at-both apart at f.0 b.0 f.1 b.1,
-      subst (λ (qs : List Put). Through s t moments reader_now writer_now bytes qs base kept)
+      subst (λ (qs : List Put). UsedUp s t moments reader_now writer_now bytes qs base kept)
           (append_assoc puts f.0 b.0) b.2,
     )
 

@@ -10,12 +10,12 @@ use mb_print::{Line, put_number, put_text};
 
 /// Writes the line of how many bytes crossed a place: `PLACE SPEC BYTES`, and a line feed. The line is empty at the
 /// start.
-pub fn hop_line(hop: u8, spec: Spec, bytes: u64, out: &mut Line)
+pub fn hop_line(place: u8, spec: Spec, bytes: u64, out: &mut Line)
     requires { out.old.items ≡ [] }
-    ensures line { out.new.items ≡ hop_text hop spec bytes }
+    ensures line { out.new.items ≡ hop_text place spec bytes }
     ensures len { array_vec_len out.new ≤ 67 }
 {
-    put_number(u64::from(hop), out);
+    put_number(u64::from(place), out);
     put_text(" ", out);
     put_word(spec, out);
     put_text(" ", out);

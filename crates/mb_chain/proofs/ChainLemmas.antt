@@ -156,7 +156,7 @@ pub chain-fed : (chain now : Chain) (hops hops_now : List Hop) (piece : List ℕ
     now.fed ≡ chain.fed + length piece → chain_links now ≡ chain_links chain → is_broken now ≡ is_broken chain →
     RowFed (map link_of hops) (RowStands hops) (RowStands hops_now) 0 piece took →
     ChainFed (chain_links chain) (ChainStands chain) (ChainStands now) piece took
-chain-fed chain now hops hops_now piece took same same_now more linked whole f0 =
+chain-fed chain now hops hops_now piece took same same_now more linked unbroken f0 =
     let f = subst (λ (hs : List Hop). RowFed (map link_of hs) (RowStands hs)
     (RowStands now.hops.items) 0 piece took) same
     (subst (λ (hs : List Hop). RowFed (map link_of hops) (RowStands hops) (RowStands hs) 0 piece took) same_now f0) in
@@ -167,7 +167,7 @@ chain-fed chain now hops hops_now piece took same same_now more linked whole f0 
         row = f.stands none_set bytes h.row (one-moment (chain_links chain) (length bytes) (length piece));
         fed = more ∙ (ap (λ n. n + length piece) h.fed ∙ sym (length-append bytes piece));
         are_specs = subst (λ (ls : List Link). AreSpecs (written_by ls)) (sym linked) h.are_specs;
-        whole = whole ∙ h.whole;
+        unbroken = unbroken ∙ h.unbroken;
       };
       beyond = λ bytes h. f.beyond none_set bytes h.row (one-moment (chain_links chain) (length bytes) (length piece));
     }

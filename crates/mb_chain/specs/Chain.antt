@@ -39,7 +39,7 @@ pub record ChainStands (c : Chain) (bytes : List ℕ) : Type 0 where
   pub row : RowStands c.hops.items none_set bytes
   pub fed : c.fed ≡ length bytes
   pub are_specs : AreSpecs (written_by (chain_links c))
-  pub whole : is_broken c ≡ false
+  pub unbroken : is_broken c ≡ false
 
 pub record ChainEnded (c : Chain) (bytes : List ℕ) : Type 0 where
   pub row : RowDone c.hops.items none_set bytes

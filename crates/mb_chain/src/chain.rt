@@ -111,7 +111,7 @@ impl Chain {
         ensures ready { K.ready out.new }
         ensures cause { HasCause (K.refusals out.old) (K.refusals out.new) result }
         ensures sound { OnOk result (K.refusals out.new ≡ K.refusals out.old) }
-        ensures whole { OnOk result (is_broken self.new ≡ is_broken self.old) }
+        ensures unbroken { OnOk result (is_broken self.new ≡ is_broken self.old) }
         ensures broken { OnErr result (is_broken self.new ≡ true) }
         ensures ended { OnOk result (ChainFinished (chain_links self.old) (ChainStands self.old) (ChainEnded self.new)
             (λ given. K.took out.old given out.new)) }
@@ -126,17 +126,17 @@ impl Chain {
 
     /// How many bytes crossed a place: at 0 the bytes fed, at each further one what the writer of the spec at that
     /// place wrote.
-    pub fn crossed(&self, hop: usize) -> u64
-        requires { hop ≤ length (chain_links self.now) }
+    pub fn crossed(&self, place: usize) -> u64
+        requires { place ≤ length (chain_links self.now) }
         ensures so_far { (bytes : List ℕ) → ChainStands self.now bytes →
-            result ≡ length (crossing (chain_links self.now) hop bytes) }
-        ensures whole { (bytes : List ℕ) → ChainEnded self.now bytes →
-            result ≡ length (crossing_all (chain_links self.now) hop bytes) }
+            result ≡ length (crossing (chain_links self.now) place bytes) }
+        ensures in_all { (bytes : List ℕ) → ChainEnded self.now bytes →
+            result ≡ length (crossing_all (chain_links self.now) place bytes) }
     {
-        if hop == 0 {
+        if place == 0 {
             return self.fed;
         }
-        self.hops.as_slice()[hop - 1].wrote
+        self.hops.as_slice()[place - 1].wrote
     }
 
     /// Whether the bytes that were fed stop inside a packet.

@@ -38,6 +38,6 @@ number_of p (m ∷ ms) = number_of p ms + (if p m then 1 else 0)
 
 pub record Counted (c : Counts) (marks : List Sign) : Type 0 where
   pub messages : c.msg ≡ number_of is_short_sign marks
-  pub whole : c.syx ≡ number_of is_end marks
+  pub complete : c.syx ≡ number_of is_end marks
   pub broken_off : c.broken ≡ number_of is_abort marks
   pub realtimes : c.rt ≡ number_of is_rt marks

@@ -8,7 +8,7 @@ use Rattle.mb_stream.specs.Reading.{told_signs}
 use Rattle.mb_din.specs.declared.progress.Progress.{Progress}
 use Rattle.mb_din.specs.declared.progress.Progress.TheVariants.{Idle, Running, Begun, InSysex}
 use Rattle.mb_din.specs.State.{State}
-use Rattle.mb_din.specs.Turn.{Step, data_front, data_rest, first_step, begun_step, is_one, whole, data_turn, status_turn, told_before, one, turn, realtime_told, status_step, end_told}
+use Rattle.mb_din.specs.Turn.{Step, data_front, data_rest, first_step, begun_step, is_one, completed, data_turn, status_turn, told_before, one, turn, realtime_told, status_step, end_told}
 use Rattle.mb_din.proofs.TurnLemmas.{one-cases, turn-cases, data_front-rest}
 
 abbrev pub Few : List Told → List ℕ → Type 0
@@ -34,7 +34,7 @@ run-few (b ∷ fs) = omega (arith, run-few fs)
 data_turn-few : (p : Progress) (s : State) (b : ℕ) (bs : List ℕ) → Few (data_turn p s b bs).told (b ∷ bs)
 data_turn-few Idle s b bs = omega arith
 data_turn-few (Running r) s b bs = first_step-few (is_one (data_length r)) (Running r) r s.offset b bs
-data_turn-few (Begun r first at) s b bs = begun_step-few (is_one (data_length r)) (whole r) r first at b bs
+data_turn-few (Begun r first at) s b bs = begun_step-few (is_one (data_length r)) (completed r) r first at b bs
 data_turn-few InSysex s b bs =
     let front = data_front (b ∷ bs) in
     omega (arith, run-few front, ap length (data_front-rest (b ∷ bs)), length-append front (data_rest (b ∷ bs)))

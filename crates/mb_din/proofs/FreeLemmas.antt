@@ -10,7 +10,7 @@ use Rattle.mb_stream.specs.ReaderLaw.{has_short}
 use Rattle.mb_din.specs.declared.progress.Progress.{Progress}
 use Rattle.mb_din.specs.declared.progress.Progress.TheVariants.{Idle, Running, Begun, InSysex}
 use Rattle.mb_din.specs.State.{State, is_free_progress, free_now, whole_by}
-use Rattle.mb_din.specs.Turn.{Step, Turn, is_one, first_step, begun_step, whole, data_step, realtime_told, told_before, end_told, status_step, data_front, data_turn, status_turn, one, unless_told, turn, passed}
+use Rattle.mb_din.specs.Turn.{Step, Turn, is_one, first_step, begun_step, completed, data_step, realtime_told, told_before, end_told, status_step, data_front, data_turn, status_turn, one, unless_told, turn, passed}
 
 abbrev Frees : List Told → Progress → Type 0
 Frees ts p = has_short ts ≡ true → is_free_progress p ≡ true
@@ -30,7 +30,7 @@ begun-frees one w s (Some a) at b f e = f
 data-frees : (p : Progress) (at b : ℕ) → Frees (data_step p at b).told (data_step p at b).progress
 data-frees Idle at b e = absurd (false≢true e)
 data-frees (Running s) at b e = first-frees (is_one (data_length s)) (Running s) s at b refl e
-data-frees (Begun s first begun) at b e = begun-frees (is_one (data_length s)) (whole s) s first begun b (whole-free (is_channel s) s) e
+data-frees (Begun s first begun) at b e = begun-frees (is_one (data_length s)) (completed s) s first begun b (whole-free (is_channel s) s) e
 data-frees InSysex at b e = absurd (false≢true e)
 
 run-quiet : (bs : List ℕ) → has_short (map Marks (map ByteSign bs)) ≡ false

@@ -11,7 +11,7 @@ use Rattle.mb_din.specs.declared.progress.Progress.{Progress}
 use Rattle.mb_din.specs.declared.progress.Progress.TheVariants.{Idle, Running, Begun, InSysex}
 use Rattle.mb_din.specs.State.{State, is_open_progress, open_now}
 use Rattle.mb_din.specs.Reader.{RunNext}
-use Rattle.mb_din.specs.Turn.{Step, Turn, is_one, first_step, begun_step, whole, data_step, realtime_told, told_before, end_told, status_step, data_front, data_turn, status_turn, one, unless_told, turn, passed}
+use Rattle.mb_din.specs.Turn.{Step, Turn, is_one, first_step, begun_step, completed, data_step, realtime_told, told_before, end_told, status_step, data_front, data_turn, status_turn, one, unless_told, turn, passed}
 
 cons≢nil : {A : Type 0} {x : A} {xs : List A} → x ∷ xs ≡ [] → ⊥
 cons≢nil e = cc
@@ -39,13 +39,13 @@ begun-shuts one w s (Some a) at b e = absurd (cons≢nil e)
 data-plain : (p : Progress) (at b : ℕ) → begins_run (data_step p at b).told ≡ false
 data-plain Idle at b = refl
 data-plain (Running s) at b = first-plain (is_one (data_length s)) (Running s) s at b
-data-plain (Begun s first begun) at b = begun-plain (is_one (data_length s)) (whole s) s first begun b
+data-plain (Begun s first begun) at b = begun-plain (is_one (data_length s)) (completed s) s first begun b
 data-plain InSysex at b = refl
 
 data-shuts : (p : Progress) (at b : ℕ) → Shuts (data_step p at b).told (data_step p at b).progress
 data-shuts Idle at b e = refl
 data-shuts (Running s) at b e = first-shuts (is_one (data_length s)) (Running s) s at b e
-data-shuts (Begun s first begun) at b e = begun-shuts (is_one (data_length s)) (whole s) s first begun b e
+data-shuts (Begun s first begun) at b e = begun-shuts (is_one (data_length s)) (completed s) s first begun b e
 data-shuts InSysex at b e = refl
 
 data_turn-next : (p : Progress) (s : State) (b : ℕ) (bs : List ℕ) → begins_run (data_turn p s b bs).told ≡ true → is_open_progress p ≡ true

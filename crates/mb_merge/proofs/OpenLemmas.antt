@@ -8,7 +8,7 @@ use Rattle.std.proofs.lemmas.List.FromFn.{get_or-map-range_with_len, length-map-
 use Rattle.std.proofs.lemmas.Bool.Decides.{nat_tests}
 use Rattle.std.proofs.lemmas.List.{get_or_default}
 use Rattle.mb_message.specs.declared.Memory.{Memory}
-use Rattle.mb_merge.specs.Opening.{is_count, stands_in, route_fault, first_fault, Refuses, AreRight, IsWrongBy}
+use Rattle.mb_merge.specs.Opening.{is_count, stands_in, route_fault, first_fault, Refuses, AreRoutes, IsWrongBy}
 use Rattle.mb_merge.specs.Opening.{IsFirstWrong, AreCounts, FaultIs}
 use Rattle.mb_merge.specs.declared.opening.RouterFault.{RouterFault}
 use Rattle.mb_merge.specs.declared.opening.RouterFault.TheVariants as fault
@@ -97,7 +97,7 @@ route-wrong sources outs before (r ∷ rs) wrong is =
       by_test true true true hs ho ht h rest = first_here sources outs before r rs wrong fault.Twice h (lt-true r.0 sources hs, lt-true r.1 outs ho, ht)
       by_test true true false hs ho ht h rest = first_later sources outs before r rs wrong (lt-true r.0 sources hs) (lt-true r.1 outs ho) ht (rest h)
 
-route-right : (sources outs : ℕ) (before routes : List (ℕ × ℕ)) → route_fault sources outs before routes ≡ None → AreRight sources outs before routes
+route-right : (sources outs : ℕ) (before routes : List (ℕ × ℕ)) → route_fault sources outs before routes ≡ None → AreRoutes sources outs before routes
 route-right sources outs before [] is = tt
 route-right sources outs before (r ∷ rs) is =
     by_test (nat_lt r.0 sources) (nat_lt r.1 outs) (stands_in r before) refl refl refl is (route-right sources outs (before ++ r ∷ []) rs) where
@@ -106,7 +106,7 @@ route-right sources outs before (r ∷ rs) is =
 
       by_test : (s o twice : Bool) → nat_lt r.0 sources ≡ s → nat_lt r.1 outs ≡ o → stands_in r before ≡ twice →
           (if not (s && o) then Some fault.Index else (if twice then Some fault.Twice else route_fault sources outs (before ++ r ∷ []) rs)) ≡ None →
-          (route_fault sources outs (before ++ r ∷ []) rs ≡ None → AreRight sources outs (before ++ r ∷ []) rs) → AreRight sources outs before (r ∷ rs)
+          (route_fault sources outs (before ++ r ∷ []) rs ≡ None → AreRoutes sources outs (before ++ r ∷ []) rs) → AreRoutes sources outs before (r ∷ rs)
       by_test false o twice hs ho ht h rest = absurd (some_none fault.Index h)
       by_test true false twice hs ho ht h rest = absurd (some_none fault.Index h)
       by_test true true true hs ho ht h rest = absurd (some_none fault.Twice h)

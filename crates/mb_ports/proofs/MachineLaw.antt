@@ -5,7 +5,7 @@ use Rattle.mb_message.specs.declared.note.Note.{Note}
 use Rattle.mb_stream.specs.Payload.{Spot, Heard, heard_from}
 use Rattle.mb_stream.specs.Groups.{Group}
 use Rattle.mb_stream.specs.Told.{Known}
-use Rattle.mb_stream.specs.Working.{news, behind, news_from}
+use Rattle.mb_stream.specs.Working.{news, group_behind, news_from}
 use Rattle.mb_stream.proofs.OrderLemmas.{Climb}
 use Rattle.mb_stream.proofs.NewsLaw.{news-climbs}
 use Rattle.mb_ports.specs.Events.{Event, Carried, Remarked, port_payload, Ported, ported, unported, one_more, ports_news, EventsRise}
@@ -108,8 +108,8 @@ ports_news-run gs p at [] = refl
 ports_news-run gs p at (b ∷ bs) =
     ap (λ z. map (ported p) (news (gs p) (spot at b)) ++ z)
     (ports_news-run (one_more gs p (spot at b)) p (at + 1) bs ∙
-    ap (λ t. map (ported p) (news_from (if t then behind (gs p) (Heard (spot at b)) else gs p) (heard_from (at + 1) 0 bs))) (eq-eqb p p refl)) ∙
-    sym (map-append p (news (gs p) (spot at b)) (news_from (behind (gs p) (Heard (spot at b))) (heard_from (at + 1) 0 bs))) where
+    ap (λ t. map (ported p) (news_from (if t then group_behind (gs p) (Heard (spot at b)) else gs p) (heard_from (at + 1) 0 bs))) (eq-eqb p p refl)) ∙
+    sym (map-append p (news (gs p) (spot at b)) (news_from (group_behind (gs p) (Heard (spot at b))) (heard_from (at + 1) 0 bs))) where
       map-append : (p : ℕ) (xs ys : List Known) → map (ported p) (xs ++ ys) ≡ map (ported p) xs ++ map (ported p) ys
       map-append p [] ys = refl
       map-append p (x ∷ xs) ys = ap (λ z. ported p x ∷ z) (map-append p xs ys)

@@ -12,7 +12,7 @@ use Rattle.mb_stream.specs.Payload.{Spot, Entry, Heard, Silent, realtime}
 use Rattle.mb_stream.specs.Groups.{Group, no_group, longer, begun, last_of}
 use Rattle.mb_stream.specs.Told.{Known, realtime_known, ended, status_told}
 use Rattle.mb_stream.specs.Order.{Each, not_after, put_in, in_order}
-use Rattle.mb_stream.specs.Working.{news, behind, data_news, group_after, RisesFrom}
+use Rattle.mb_stream.specs.Working.{news, group_behind, data_news, group_after, RisesFrom}
 use Rattle.mb_stream.proofs.OrderLemmas.{Each-append, Each-implies, Each-in_order, Late, Climb, in_order-climb, put_in-first}
 use Rattle.mb_stream.proofs.NewsLaw.{later, later_by, told-from, later-From, realtime-From, news-climbs, From, last_of-after}
 use Rattle.mb_ports.specs.Events.{Event, Carried, Remarked, port_payload, unit_notes, Ported, ported, unported, known_of, below_from, below, port_told, ports_so_far, one_more, ports_news, EventsRise}
@@ -28,7 +28,7 @@ record Splits (all ns next : List Known) : Type 0 where
   next_is : front ++ back ≡ next
 
 -- what a byte tells stands in one piece
-splits : (g : Group) (x : Spot) (es : List Entry) → Splits (beyond g (Heard x ∷ es)) (news g x) (beyond (behind g (Heard x)) es)
+splits : (g : Group) (x : Spot) (es : List Entry) → Splits (beyond g (Heard x ∷ es)) (news g x) (beyond (group_behind g (Heard x)) es)
 splits g x es = by_test (is_realtime x.byte) (is_data x.byte) where
   by_test : (rt da : Bool) → Splits
       (later_by rt da g x (later g es) (later (longer g x) es) (later (begun x) es) ++ map realtime_known (if rt then x ∷ realtime es else realtime es))
@@ -71,10 +71,10 @@ Others p cs = Each (λ c. (p == c) ≡ false) cs
 
 record Once (p : ℕ) (cs : List ℕ) : Type 0 where
   before : List ℕ
-  behind : List ℕ
-  are : cs ≡ before ++ (p ∷ behind)
+  group_behind : List ℕ
+  are : cs ≡ before ++ (p ∷ group_behind)
   others_before : Others p before
-  others_behind : Others p behind
+  others_behind : Others p group_behind
 
 others-above : (p from count : ℕ) → p < from → Others p (below_from from count)
 others-above p from zero h = tt
@@ -88,7 +88,7 @@ once-below p from (suc count) low high = by_test (p == from) refl (λ above. onc
       let same : from ≡ p = grind (arith, nat_tests) in
       record {
         before = [];
-        behind = below_from (from + 1) count;
+        group_behind = below_from (from + 1) count;
         are = ap (λ z. z ∷ below_from (from + 1) count) same;
         others_before = tt;
         others_behind = others-above p (from + 1) count (omega arith);
@@ -98,7 +98,7 @@ once-below p from (suc count) low high = by_test (p == from) refl (λ above. onc
       let rest : Once p (below_from (from + 1) count) = next (omega arith) in
       record {
         before = from ∷ rest.before;
-        behind = rest.behind;
+        group_behind = rest.behind;
         are = ap (λ z. from ∷ z) rest.are;
         others_before = (e, rest.others_before);
         others_behind = rest.others_behind;
@@ -187,7 +187,7 @@ noted-behind k p rank h = let high : k.at + 1 ≤ p.known.at + 1 = h.0 in let sa
 -- A byte: its port, and the others.
 
 other-same : (t : Bool) (c : ℕ) (g : Group) (x : Spot) (es : List Entry) → t ≡ false →
-    map (ported c) (beyond g (if t then Heard x ∷ es else es)) ≡ map (ported c) (beyond (if t then behind g (Heard x) else g) es)
+    map (ported c) (beyond g (if t then Heard x ∷ es else es)) ≡ map (ported c) (beyond (if t then group_behind g (Heard x) else g) es)
 other-same true c g x es e = cc
 other-same false c g x es e = refl
 
@@ -208,7 +208,7 @@ map-ported p [] ys = refl
 map-ported p (x ∷ xs) ys = ap (λ z. ported p x ∷ z) (map-ported p xs ys)
 
 own-splits : (t : Bool) (p : ℕ) (g : Group) (x : Spot) (es : List Entry) → t ≡ true →
-    OwnSplits (map (ported p) (beyond g (if t then Heard x ∷ es else es))) p (news g x) (map (ported p) (beyond (if t then behind g (Heard x) else g) es))
+    OwnSplits (map (ported p) (beyond g (if t then Heard x ∷ es else es))) p (news g x) (map (ported p) (beyond (if t then group_behind g (Heard x) else g) es))
 own-splits false p g x es e = cc
 own-splits true p g x es e =
     let s = splits g x es in
@@ -319,7 +319,7 @@ groups_after-port : (gs : ℕ → Group) (c : ℕ) (es : List Event) → groups_
 groups_after-port gs c [] = refl
 groups_after-port gs c (Remarked k ∷ es) = groups_after-port gs c es
 groups_after-port gs c (Carried p x ∷ es) = groups_after-port (one_more gs p x) c es ∙ by_test (p == c) where
-  by_test : (t : Bool) → group_after (if t then behind (gs c) (Heard x) else gs c) (port_payload c es) ≡ group_after (gs c) (if t then Heard x ∷ port_payload c es else port_payload c es)
+  by_test : (t : Bool) → group_after (if t then group_behind (gs c) (Heard x) else gs c) (port_payload c es) ≡ group_after (gs c) (if t then Heard x ∷ port_payload c es else port_payload c es)
   by_test true = refl
   by_test false = refl
 

@@ -15,7 +15,7 @@ use Rattle.mb_top.proofs.JobLemmas.{command-stays, command-closes}
 use Rattle.mb_words.specs.Command.{Command, Converting, Listing}
 use Rattle.mb_top.specs.Output.{output_of, is_whole, live_output_of, tally_of}
 use Rattle.mb_top.specs.Job.{JobFed, JobHalted, JobEnded, JobEndHalted, JobTold, JobTellHalted, Remarked}
-use Rattle.mb_top.specs.Answer.{EndsAs, WentThrough, all_but_last, PIECE}
+use Rattle.mb_top.specs.Answer.{EndsAs, DidAll, all_but_last, PIECE}
 use Rattle.mb_top.specs.Ran.{Ran, RanEnd, MayAnswer, at_end, written_of}
 use Rattle.mb_top.specs.declared.status.Status.{Status}
 use Rattle.mb_top.specs.declared.status.Status.TheVariants.{Stopped}
@@ -151,7 +151,7 @@ ran-end c d limit before old now bytes status same below s all r =
 
 -- the answer at the end, by whether the input is cut and whether it was remarked
 ends-at : (c : Command) (limit : ℕ) (left input output tally : List ℕ) (cut noted : Bool) →
-    WentThrough c limit left input output tally → cut ≡ not (is_whole c input) →
+    DidAll c limit left input output tally → cut ≡ not (is_whole c input) →
     Remarked noted c input → EndsAs c limit left input output tally (at_end cut noted)
 ends-at c limit left input output tally true noted w is_cut remarked = (w, not-true (is_whole c input) is_cut)
 ends-at c limit left input output tally false true w is_cut remarked =
@@ -170,7 +170,7 @@ end-ran c d before mid now bytes was done cut noted took tells status same_comma
       tally = t.given;
       contents = told ∙ ap (after_write 2 t.given) wrote;
       ends = λ limit below.
-          let w : WentThrough c limit bytes bytes (live_output_of c bytes ++ e.given) t.given =
+          let w : DidAll c limit bytes bytes (live_output_of c bytes ++ e.given) t.given =
           record {
             all = refl;
             below = below;

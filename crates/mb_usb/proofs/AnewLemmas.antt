@@ -16,7 +16,7 @@ use Rattle.mb_ports.proofs.OnePortLaw.{anew-one}
 use Rattle.mb_usb.specs.declared.under.Under.{Under}
 use Rattle.mb_usb.specs.declared.under.Under.TheVariants.{Between, One, Two, Three}
 use Rattle.mb_usb.specs.declared.under.Packets.{Packets}
-use Rattle.mb_usb.specs.Reading.{Packet, cable_of, used, carried, packets_from, usb_whole}
+use Rattle.mb_usb.specs.Reading.{EventPacket, cable_of, used, heard_in, packets_from, usb_whole}
 use Rattle.mb_usb.specs.Under.{taken_of}
 use Rattle.mb_usb.specs.State.{UsbState, CableState, reader_at}
 use Rattle.mb_usb.specs.Cables.{notes_in, usb, each_cable, only_cable, UsbHolds, CableHolds, without_cable, UsbAnew, CableAnew}
@@ -49,10 +49,10 @@ same-under f c bytes h =
 
 -- What the packets carry.
 
-abbrev on_cable : ℕ → Packet → List Entry
-on_cable c p = if cable_of p == c then carried p else []
+abbrev on_cable : ℕ → EventPacket → List Entry
+on_cable c p = if cable_of p == c then heard_in p else []
 
-abbrev at_head : (at head : ℕ) → List ℕ → Packet
+abbrev at_head : (at head : ℕ) → List ℕ → EventPacket
 at_head at head rest = record { at = at; head = head; rest = rest }
 
 take-none : (xs : List ℕ) → take 0 xs ≡ []
@@ -71,7 +71,7 @@ silent-packet c at h rest true e =
     let none : (c * 16) % 16 ≡ 0 = omega arith in
     ap (λ n. if (c * 16) / 16 == c then heard_from (at + 1) 0 (take (used n) rest) else []) none ∙
     (ap (λ z. if (c * 16) / 16 == c then heard_from (at + 1) 0 z else []) (take-none rest) ∙ neither ((c * 16) / 16 == c))
-silent-packet c at h rest false e = ap (λ (t : Bool). if t then carried (at_head at h rest) else []) e
+silent-packet c at h rest false e = ap (λ (t : Bool). if t then heard_in (at_head at h rest) else []) e
 
 silent-from : (c at : ℕ) (bytes : List ℕ) → flat_map (on_cable c) (packets_from at (without_cable c bytes)) ≡ []
 silent-from c at [] = refl
@@ -91,8 +91,8 @@ other-packet c d at h rest true other e =
     let emptied_too : (c * 16) / 16 ≡ c = omega arith in
     let left : ((c * 16) / 16 == d) ≡ false = apart ((c * 16) / 16) d (λ same. other (sym same ∙ emptied_too)) in
     let right : (h / 16 == d) ≡ false = apart (h / 16) d (λ same. other (sym same ∙ here)) in
-    ap (λ (t : Bool). if t then carried (at_head at (c * 16) rest) else []) left ∙
-    sym (ap (λ (t : Bool). if t then carried (at_head at h rest) else []) right)
+    ap (λ (t : Bool). if t then heard_in (at_head at (c * 16) rest) else []) left ∙
+    sym (ap (λ (t : Bool). if t then heard_in (at_head at h rest) else []) right)
 other-packet c d at h rest false other e = refl
 
 other-from : (c d at : ℕ) (bytes : List ℕ) → (d ≡ c → ⊥) →

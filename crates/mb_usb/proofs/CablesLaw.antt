@@ -18,7 +18,7 @@ use Rattle.mb_ports.proofs.MachineLaw.{LowPorts, port_payload-append, port_paylo
 use Rattle.mb_ports.proofs.OnePortLaw.{one_so_far, one-stays}
 use Rattle.mb_usb.specs.declared.under.Under.{Under}
 use Rattle.mb_usb.specs.declared.under.Under.TheVariants.{Between, One, Two, Three}
-use Rattle.mb_usb.specs.Reading.{Packet, cable_of, packets_from, packets, used, carried, cable_payload, suits_cin, unit_note}
+use Rattle.mb_usb.specs.Reading.{EventPacket, cable_of, packets_from, packets, used, heard_in, cable_payload, suits_cin, unit_note}
 use Rattle.mb_usb.specs.Under.{under_after, left_of, head_of, note_at}
 use Rattle.mb_usb.specs.Cables.{of_cable, all_cables_so_far, cable_so_far, notes_in, port_by, usb, each_cable, only_cable}
 
@@ -95,8 +95,8 @@ abbrev goes : Option ℕ → ℕ → Bool
 goes None q = false
 goes (Some p) q = p == q
 
-abbrev pick : (ℕ → Option ℕ) → ℕ → Packet → List Entry
-pick f q p = if goes (f (cable_of p)) q then carried p else []
+abbrev pick : (ℕ → Option ℕ) → ℕ → EventPacket → List Entry
+pick f q p = if goes (f (cable_of p)) q then heard_in p else []
 
 -- a byte of a packet that still carries so many, of a cable that is the port's or isn't
 abbrev got : ℕ → Bool → Spot → List Entry
@@ -276,9 +276,9 @@ each-goes h q low = by_test (nat_lt h 16) refl where
   by_test true e = refl
   by_test false e = let no : (h == q) ≡ false = grind (arith, nat_tests) in sym no
 
-pick-same : (f : ℕ → Option ℕ) (q c : ℕ) (ps : List Packet) → ((h : ℕ) → goes (f h) q ≡ (h == c)) → flat_map (pick f q) ps ≡ flat_map (λ p. if cable_of p == c then carried p else []) ps
+pick-same : (f : ℕ → Option ℕ) (q c : ℕ) (ps : List EventPacket) → ((h : ℕ) → goes (f h) q ≡ (h == c)) → flat_map (pick f q) ps ≡ flat_map (λ p. if cable_of p == c then heard_in p else []) ps
 pick-same f q c [] same = refl
-pick-same f q c (p ∷ ps) same = ap₂ (λ (t : Bool) (z : List Entry). (if t then carried p else []) ++ z) (same (cable_of p)) (pick-same f q c ps same)
+pick-same f q c (p ∷ ps) same = ap₂ (λ (t : Bool) (z : List Entry). (if t then heard_in p else []) ++ z) (same (cable_of p)) (pick-same f q c ps same)
 
 pub each-payload : (c : ℕ) (bytes : List ℕ) → c < 16 → port_payload c (events (usb each_cable) bytes) ≡ cable_payload c bytes
 each-payload c bytes low = cables-from each_cable c 0 bytes ∙ pick-same each_cable c c (packets bytes) (λ h. each-goes h c low)

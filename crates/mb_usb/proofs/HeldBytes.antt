@@ -106,10 +106,10 @@ pub record Waiting (r : Reader) (p : List ℕ) : Type 0 where
   pub inside : behind r p ≡ Inside
 
 -- nothing waits where no SysEx is open
-abbrev pub Held : Bool → Reader → List ℕ → Type 0
-Held false r [] = Unit {0}
-Held false r (x ∷ p) = ⊥
-Held true r p = Waiting r p
+abbrev pub HoldsBytes : Bool → Reader → List ℕ → Type 0
+HoldsBytes false r [] = Unit {0}
+HoldsBytes false r (x ∷ p) = ⊥
+HoldsBytes true r p = Waiting r p
 
 pub Waiting-push : (r : Reader) (p : List ℕ) (b : ℕ) → Waiting r p → kind b ≡ DataKind → Waiting r (p ++ b ∷ [])
 Waiting-push r p b h e = record {
@@ -152,7 +152,7 @@ rt_passes r b p xs ys e h same =
     (Same-cons (RtSign b) (read r xs) (tell r p ++ read (behind r p) ys) (subst (λ y. Same (read r xs) y) (read-append r p ys) same))
     (early b (tell r p) (read (behind r p) ys) h.passes))
 
-held-full : (ms : List Sign) (o : Bool) (r : Reader) (p : List ℕ) → Held o r p → Suit o ms → Same (read r (held_back p ms)) (read r (p ++ full_bytes ms))
+held-full : (ms : List Sign) (o : Bool) (r : Reader) (p : List ℕ) → HoldsBytes o r p → Suit o ms → Same (read r (held_back p ms)) (read r (p ++ full_bytes ms))
 held-full [] false r [] h su = Same-refl (read r [])
 held-full [] true r p h su = Same-equal (read r p) (read r (p ++ [])) (ap (λ bs. read r bs) (sym (append-nil p)))
 held-full (ShortSign s a b ∷ ms) false r [] h su =

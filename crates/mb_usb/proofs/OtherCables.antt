@@ -9,7 +9,7 @@ use Rattle.mb_message.specs.Signs.{Sign, ShortSign, RtSign, OpenSign, ByteSign, 
 use Rattle.mb_stream.specs.Payload.{Entry}
 use Rattle.mb_stream.specs.Spelling.{data_of}
 use Rattle.mb_usb.specs.Packets.{packet, padded, cin_of_short, single}
-use Rattle.mb_usb.specs.Reading.{Packet, cable_of, packets_from, carried, cable_payload}
+use Rattle.mb_usb.specs.Reading.{EventPacket, cable_of, packets_from, heard_in, cable_payload}
 use Rattle.mb_usb.specs.Written.{Placed, at_place, rest_of_sysex, end_of_sysex, threes, part_packets, sysex_packets, usb_packets, put_at, by_place, usb_placed, bytes_of, usb_written}
 use Rattle.mb_usb.proofs.PacketFacts.{packets-padded}
 
@@ -101,15 +101,15 @@ of_packets cable i (AbortSign ∷ ms) = of_packets cable (i + 1) ms
 -- What another cable carries of such packets.
 
 abbrev carried_at : ℕ → ℕ → List ℕ → List Entry
-carried_at other at bytes = flat_map (λ p. if cable_of p == other then carried p else []) (packets_from at bytes)
+carried_at other at bytes = flat_map (λ p. if cable_of p == other then heard_in p else []) (packets_from at bytes)
 
 silent-packet : (cable other number at : ℕ) (bytes more : List ℕ) → (other ≡ cable → ⊥) → number < 16 →
     carried_at other at (packet cable number bytes ++ more) ≡ carried_at other (at + 4) more
 silent-packet cable other number at bytes more apart low =
-    let p : Packet = record { at = at; head = cable * 16 + number; rest = padded bytes } in
+    let p : EventPacket = record { at = at; head = cable * 16 + number; rest = padded bytes } in
     let of : cable_of p ≡ cable = omega arith in
-    ap (λ ps. flat_map (λ q. if cable_of q == other then carried q else []) ps) (packets-padded at (cable * 16 + number) bytes more)
-    ∙ ap (λ t. (if t then carried p else []) ++ carried_at other (at + 4) more) (ne_eqb (cable_of p) other (λ e. apart (sym e ∙ of)))
+    ap (λ ps. flat_map (λ q. if cable_of q == other then heard_in q else []) ps) (packets-padded at (cable * 16 + number) bytes more)
+    ∙ ap (λ t. (if t then heard_in p else []) ++ carried_at other (at + 4) more) (ne_eqb (cable_of p) other (λ e. apart (sym e ∙ of)))
 
 silent-from : (cable other at : ℕ) (xs : List (Placed (List ℕ))) → (other ≡ cable → ⊥) → AreOf cable xs → carried_at other at (bytes_of xs) ≡ []
 silent-from cable other at [] apart h = refl

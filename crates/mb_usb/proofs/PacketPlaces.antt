@@ -1,7 +1,7 @@
 -- Where the bytes and the packets of a list stand.
 --
 --   Few q          bytes that wait: at most two, no F7
---   Held o q       none outside a SysEx
+--   FewHeld o q       none outside a SysEx
 use Rattle.std.proofs.Common.{◌≡◌, ℕ, ◌+◌, ◌==◌, ◌≤◌, Bool, true, false, List, [], ◌∷◌, ◌++◌, if◌then◌else◌, refl, sym, ap, subst, arith}
 use Rattle.std.proofs.lemmas.Bool.{false≢true}
 use Rattle.mb_message.specs.Signs.{Sign, ShortSign, RtSign, OpenSign, ByteSign, EndSign, AbortSign}
@@ -79,15 +79,15 @@ Few (x ∷ y ∷ []) = IsNoEnd x × IsNoEnd y
 Few (x ∷ y ∷ z ∷ xs) = ⊥
 
 -- none outside a SysEx
-abbrev pub Held : Bool → List (Placed ℕ) → Type 0
-Held true q = Few q
-Held false [] = Unit {0}
-Held false (x ∷ xs) = ⊥
+abbrev pub FewHeld : Bool → List (Placed ℕ) → Type 0
+FewHeld true q = Few q
+FewHeld false [] = Unit {0}
+FewHeld false (x ∷ xs) = ⊥
 
-pub Held-few : (o : Bool) (q : List (Placed ℕ)) → Held o q → Few q
-Held-few true q h = h
-Held-few false [] h = tt
-Held-few false (x ∷ q) h = absurd h
+pub FewHeld-few : (o : Bool) (q : List (Placed ℕ)) → FewHeld o q → Few q
+FewHeld-few true q h = h
+FewHeld-few false [] h = tt
+FewHeld-few false (x ∷ q) h = absurd h
 
 pub single-packets : (c e : ℕ) (x : Placed ℕ) → IsNoEnd x → part_packets c e (x ∷ []) ≡ at_place e (single c x.thing) ∷ []
 single-packets c e x none =

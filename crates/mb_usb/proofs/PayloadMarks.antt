@@ -12,7 +12,7 @@ use Rattle.mb_stream.proofs.Machine.{Rest, tell, read, Clean, read-tell}
 use Rattle.mb_stream.proofs.OrderedMarks.{marked, marked-append, signs-beside}
 use Rattle.mb_stream.proofs.LiteralMarks.{AllHeard, heard_bytes, heard_from-all, parts-signs, parts-notes, so_far-signs, so_far-notes, end_part-signs, end_part-notes}
 use Rattle.mb_din.proofs.FewMarks.{length-heard_from}
-use Rattle.mb_usb.specs.Reading.{Packet, cable_of, cin_of, packets_from, packets, used, carried, cable_payload, suits_packet, unit_note, usb_told, usb_so_far, usb_reading}
+use Rattle.mb_usb.specs.Reading.{EventPacket, cable_of, cin_of, packets_from, packets, used, heard_in, cable_payload, suits_packet, unit_note, usb_told, usb_so_far, usb_reading}
 
 AllHeard-append : (xs ys : List Entry) → AllHeard xs → AllHeard ys → AllHeard (xs ++ ys)
 AllHeard-append [] ys h k = k
@@ -30,21 +30,21 @@ RisesFrom-heard at moment [] es h = RisesFrom-lower at (at + 0) es (omega arith)
 RisesFrom-heard at moment (b ∷ bs) es h =
     (omega arith, RisesFrom-heard (at + 1) moment bs es (RisesFrom-lower (at + 1 + length bs) (at + length (b ∷ bs)) es (omega arith) h))
 
-abbrev payload_of : ℕ → List Packet → List Entry
-payload_of cable ps = flat_map (λ p. if cable_of p == cable then carried p else []) ps
+abbrev payload_of : ℕ → List EventPacket → List Entry
+payload_of cable ps = flat_map (λ p. if cable_of p == cable then heard_in p else []) ps
 
 -- what one packet carries, before the payload of those behind it
 packet_rises : (cable at head : ℕ) (bs : List ℕ) (es : List Entry) → length bs ≤ 3 → RisesFrom (at + 4) es →
-    RisesFrom at ((if cable_of (record { at = at; head = head; rest = bs }) == cable then carried (record { at = at; head = head; rest = bs }) else []) ++ es)
+    RisesFrom at ((if cable_of (record { at = at; head = head; rest = bs }) == cable then heard_in (record { at = at; head = head; rest = bs }) else []) ++ es)
 packet_rises cable at head bs es few h =
-    let p : Packet = record { at = at; head = head; rest = bs } in
-    let Goal : Bool → Type 0 = λ c. RisesFrom at ((if c then carried p else []) ++ es) in
+    let p : EventPacket = record { at = at; head = head; rest = bs } in
+    let Goal : Bool → Type 0 = λ c. RisesFrom at ((if c then heard_in p else []) ++ es) in
     let taken : List ℕ = take (used (cin_of p)) bs in
     let here : RisesFrom (at + 1) (heard_from (at + 1) 0 taken ++ es) =
     RisesFrom-heard (at + 1) 0 taken es
     (RisesFrom-lower (at + 1 + length taken) (at + 4) es (omega (arith, length-take (used (cin_of p)) bs)) h) in
     elim (cable_of p == cable) as Goal [
-      | true ↦ RisesFrom-lower at (at + 1) (carried p ++ es) (omega arith) here
+      | true ↦ RisesFrom-lower at (at + 1) (heard_in p ++ es) (omega arith) here
       | false ↦ RisesFrom-lower at (at + 4) es (omega arith) h
     ]
 
@@ -61,14 +61,14 @@ payload-rises cable bytes = payload-rises_from cable 0 bytes
 
 -- what one packet carries, before the payload of those behind it
 length-packet : (cable at head : ℕ) (bs : List ℕ) (es : List Entry) →
-    length ((if cable_of (record { at = at; head = head; rest = bs }) == cable then carried (record { at = at; head = head; rest = bs }) else []) ++ es)
+    length ((if cable_of (record { at = at; head = head; rest = bs }) == cable then heard_in (record { at = at; head = head; rest = bs }) else []) ++ es)
     ≤ length bs + length es
 length-packet cable at head bs es =
-    let p : Packet = record { at = at; head = head; rest = bs } in
-    let Goal : Bool → Type 0 = λ c. length ((if c then carried p else []) ++ es) ≤ length bs + length es in
+    let p : EventPacket = record { at = at; head = head; rest = bs } in
+    let Goal : Bool → Type 0 = λ c. length ((if c then heard_in p else []) ++ es) ≤ length bs + length es in
     let taken : List ℕ = take (used (cin_of p)) bs in
     elim (cable_of p == cable) as Goal [
-      | true ↦ omega (arith, length-append (carried p) es, length-heard_from (at + 1) 0 taken, length-take (used (cin_of p)) bs)
+      | true ↦ omega (arith, length-append (heard_in p) es, length-heard_from (at + 1) 0 taken, length-take (used (cin_of p)) bs)
       | false ↦ omega arith
     ]
 
@@ -83,13 +83,13 @@ length-payload_from cable at (h ∷ a ∷ b ∷ []) = omega (arith, length-packe
 pub length-payload : (cable : ℕ) (bytes : List ℕ) → length (cable_payload cable bytes) ≤ length bytes
 length-payload cable bytes = length-payload_from cable 0 bytes
 
-payload-heard_of : (cable : ℕ) (ps : List Packet) → AllHeard (payload_of cable ps)
+payload-heard_of : (cable : ℕ) (ps : List EventPacket) → AllHeard (payload_of cable ps)
 payload-heard_of cable [] = tt
 payload-heard_of cable (p ∷ ps) =
-    let Goal : Bool → Type 0 = λ c. AllHeard ((if c then carried p else []) ++ payload_of cable ps) in
+    let Goal : Bool → Type 0 = λ c. AllHeard ((if c then heard_in p else []) ++ payload_of cable ps) in
     let rest : AllHeard (payload_of cable ps) = payload-heard_of cable ps in
     elim (cable_of p == cable) as Goal [
-      | true ↦ AllHeard-append (carried p) (payload_of cable ps) (heard_from-all (p.at + 1) 0 (take (used (cin_of p)) p.rest)) rest
+      | true ↦ AllHeard-append (heard_in p) (payload_of cable ps) (heard_from-all (p.at + 1) 0 (take (used (cin_of p)) p.rest)) rest
       | false ↦ rest
     ]
 
@@ -102,10 +102,10 @@ unit_marked_by true d at = refl
 unit_marked_by false true at = refl
 unit_marked_by false false at = refl
 
-unit_marked : (p : Packet) → marked (unit_note p) ≡ []
+unit_marked : (p : EventPacket) → marked (unit_note p) ≡ []
 unit_marked p = unit_marked_by (nat_le (cin_of p) 1) (suits_packet p) p.at
 
-units_marked : (ps : List Packet) → marked (flat_map unit_note ps) ≡ []
+units_marked : (ps : List EventPacket) → marked (flat_map unit_note ps) ≡ []
 units_marked [] = refl
 units_marked (p ∷ ps) = marked-append (unit_note p) (flat_map unit_note ps) ∙ ap₂ (λ ks ls. ks ++ ls) (unit_marked p) (units_marked ps)
 

@@ -15,7 +15,7 @@ use Rattle.mb_usb.specs.Running.{pending_after, packets_at, usb_at, usb_from, pe
 use Rattle.mb_usb.specs.Written.{Placed, at_place, by_place, before_place, bytes_of, rest_of_sysex, end_of_sysex, sysex_packets, usb_packets, usb_written, usb_live}
 use Rattle.mb_usb.proofs.RunningLemmas.{usb_from-append, usb_from-one}
 use Rattle.mb_usb.proofs.Places.{From, From-less, From-append, by_place-first, by_place-front, all_at, before_place-append, before_place-all, before_place-none}
-use Rattle.mb_usb.proofs.PacketPlaces.{rest_of_sysex-From, end_of_sysex-least, sysex_packets-From, later-packets, Held, Held-few, single-packets, two-packets, sysex_packets-pending, rest_of_sysex-outside}
+use Rattle.mb_usb.proofs.PacketPlaces.{rest_of_sysex-From, end_of_sysex-least, sysex_packets-From, later-packets, FewHeld, FewHeld-few, single-packets, two-packets, sysex_packets-pending, rest_of_sysex-outside}
 
 -- the running form with places
 
@@ -64,7 +64,7 @@ three-step c i x y b ms none behind =
     ap (λ (ps : List (Placed (List ℕ))). at_place i (packet c 4 (x.thing ∷ y.thing ∷ b ∷ [])) ∷ ps) behind
 
 -- The one induction, over the marks: q waits before them.
-all_from-placed : (c i : ℕ) (o : Bool) (q : List (Placed ℕ)) (ms : List Sign) → Held o q → Suited o ms →
+all_from-placed : (c i : ℕ) (o : Bool) (q : List (Placed ℕ)) (ms : List Sign) → FewHeld o q → Suited o ms →
     by_place (all_from c i q ms) ≡ placed_from c i (things q) ms
 -- the end of the list
 all_from-placed c i false [] [] h s = refl
@@ -79,7 +79,7 @@ all_from-placed c i false (x ∷ q) ms h s = absurd h
 all_from-placed c i o q (RtSign b ∷ ms) h s =
     let packets = sysex_packets c (end_of_sysex (i + 1) ms) (q ++ rest_of_sysex (i + 1) ms) in
     by_place-front packets (at_place i (single c b)) (usb_packets c (i + 1) ms)
-    (sysex_packets-pending c (i + 1) (end_of_sysex (i + 1) ms) q (rest_of_sysex (i + 1) ms) (Held-few o q h)
+    (sysex_packets-pending c (i + 1) (end_of_sysex (i + 1) ms) q (rest_of_sysex (i + 1) ms) (FewHeld-few o q h)
     (rest_of_sysex-From (i + 1) ms) (end_of_sysex-least (i + 1) ms))
     (later-packets c i ms) ∙
     ap (λ (ps : List (Placed (List ℕ))). at_place i (single c b) ∷ ps) (all_from-placed c (i + 1) o q ms h s.1)

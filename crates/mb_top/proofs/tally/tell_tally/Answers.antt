@@ -9,7 +9,7 @@ crossed-requires g c = grind (arith, common_steps, hops-count _ _ c.requires.cha
 
 pub returns-in-Err-clause-halted : goal.returns-in-Err-clause-halted
 returns-in-Err-clause-halted g c =
-    told-halted _ _ c.specs.at c.crossed.result _ _ c.as_slice.result.now c.in-Err.ensures.front.0 _ _ _ c.requires.chain (grind (arith, common_steps)) refl c.crossed.ensures.whole
+    told-halted _ _ c.specs.at c.crossed.result _ _ c.as_slice.result.now c.in-Err.ensures.front.0 _ _ _ c.requires.chain (grind (arith, common_steps)) refl c.crossed.ensures.in_all
     (c.as_slice.ensures.value ∙ c.hop_line.ensures.line) c.in-Err.ensures.front.1 c.in-Err.ensures.front.2
     (λ x y. g.met.K.Out.both _ _ _ x y) c.specs.invariant.told
 
@@ -20,7 +20,7 @@ specs-preserved g c =
       ready = c.take.ensures.ready;
       sound = c.in_default.ensures.sound ∙ c.specs.invariant.sound;
       told = told-more _ _ c.specs.at c.crossed.result _ _ c.as_slice.result.now _ _ _ c.requires.chain
-          (grind (arith, common_steps)) refl c.crossed.ensures.whole
+          (grind (arith, common_steps)) refl c.crossed.ensures.in_all
           (c.as_slice.ensures.value ∙ c.hop_line.ensures.line) c.in_default.ensures.took
           (λ x y. g.met.K.Out.both _ _ _ x y) c.specs.invariant.told;
     }

@@ -25,6 +25,6 @@ returns-clause-ok c =
         row = fresh-row _ none_set c.specs.invariant.fresh;
         fed = refl;
         are_specs = links-specs c.args.specs.now _ links c.requires;
-        whole = refl;
+        unbroken = refl;
       },
     )

@@ -2,7 +2,7 @@ use Rattle.std.proofs.Common.{ℕ, List, refl, ◌∙◌, subst}
 use Rattle.std.proofs.lemmas.Result.{on_ok_weaker, on_err_weaker}
 use Rattle.mb_carrier.proofs.ListLemmas.{Fronted, listing-start, listing-step, listing-halted, listing-fed}
 use Rattle.mb_carrier.proofs.ListLemmas.{listing-last_halted, noted-more}
-use Rattle.mb_carrier.proofs.listing.list_piece.Goals as goal
+use Rattle.mb_carrier.proofs.list_steps.list_piece.Goals as goal
 
 pub events-init : goal.events-init
 events-init g c =
