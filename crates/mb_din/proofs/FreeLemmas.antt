@@ -9,13 +9,13 @@ use Rattle.mb_stream.specs.Told.{Told, Marks, Notes}
 use Rattle.mb_stream.specs.ReaderLaw.{has_short}
 use Rattle.mb_din.specs.declared.progress.Progress.{Progress}
 use Rattle.mb_din.specs.declared.progress.Progress.TheVariants.{Idle, Running, Begun, InSysex}
-use Rattle.mb_din.specs.State.{State, is_free_progress, free_now, whole_by}
+use Rattle.mb_din.specs.State.{State, is_free_progress, free_now, completed_by}
 use Rattle.mb_din.specs.Turn.{Step, Turn, is_one, first_step, begun_step, completed, data_step, realtime_told, told_before, end_told, status_step, data_front, data_turn, status_turn, one, unless_told, turn, passed}
 
 abbrev Frees : List Told → Progress → Type 0
 Frees ts p = has_short ts ≡ true → is_free_progress p ≡ true
 
-whole-free : (c : Bool) (s : ℕ) → is_free_progress (whole_by c s) ≡ true
+whole-free : (c : Bool) (s : ℕ) → is_free_progress (completed_by c s) ≡ true
 whole-free true s = refl
 whole-free false s = refl
 
