@@ -71,7 +71,7 @@ Others p cs = Each (λ c. (p == c) ≡ false) cs
 
 record Once (p : ℕ) (cs : List ℕ) : Type 0 where
   before : List ℕ
-  group_behind : List ℕ
+  behind : List ℕ
   are : cs ≡ before ++ (p ∷ group_behind)
   others_before : Others p before
   others_behind : Others p group_behind
@@ -88,7 +88,7 @@ once-below p from (suc count) low high = by_test (p == from) refl (λ above. onc
       let same : from ≡ p = grind (arith, nat_tests) in
       record {
         before = [];
-        group_behind = below_from (from + 1) count;
+        behind = below_from (from + 1) count;
         are = ap (λ z. z ∷ below_from (from + 1) count) same;
         others_before = tt;
         others_behind = others-above p (from + 1) count (omega arith);
@@ -98,7 +98,7 @@ once-below p from (suc count) low high = by_test (p == from) refl (λ above. onc
       let rest : Once p (below_from (from + 1) count) = next (omega arith) in
       record {
         before = from ∷ rest.before;
-        group_behind = rest.behind;
+        behind = rest.behind;
         are = ap (λ z. from ∷ z) rest.are;
         others_before = (e, rest.others_before);
         others_behind = rest.others_behind;
