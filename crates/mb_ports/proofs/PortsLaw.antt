@@ -72,9 +72,9 @@ Others p cs = Each (λ c. (p == c) ≡ false) cs
 record Once (p : ℕ) (cs : List ℕ) : Type 0 where
   before : List ℕ
   behind : List ℕ
-  are : cs ≡ before ++ (p ∷ group_behind)
+  are : cs ≡ before ++ (p ∷ behind)
   others_before : Others p before
-  others_behind : Others p group_behind
+  others_behind : Others p behind
 
 others-above : (p from count : ℕ) → p < from → Others p (below_from from count)
 others-above p from zero h = tt
