@@ -12,7 +12,7 @@ use Rattle.mb_stream.specs.Groups.{Group, silent, begun, last_of}
 use Rattle.mb_stream.specs.Payload.{Spot, Entry, Heard, Silent}
 use Rattle.mb_stream.specs.Reading.{part_of, so_far}
 use Rattle.mb_stream.specs.Told.{Told, Known, may_run}
-use Rattle.mb_stream.specs.Working.{news, behind as behind_entry}
+use Rattle.mb_stream.specs.Working.{news, group_behind as behind_entry}
 use Rattle.mb_message.specs.declared.note.NoteKind.TheVariants.{LoneStamp}
 use Rattle.mb_ble.specs.Packets.{Token, Stamp, Status, Data, Ends, byte_token, tokens, clock, running, running_after, is_full, resumed, payload, spot}
 use Rattle.mb_ble.specs.Reading.{lone, noted, unit_note}

@@ -14,7 +14,7 @@ use Rattle.mb_stream.specs.Groups.{Group, is_sysex, last_of, longer}
 use Rattle.mb_stream.specs.Payload.{Spot, Entry, Heard, Silent, heard_from}
 use Rattle.mb_stream.specs.Reading.{so_far}
 use Rattle.mb_stream.specs.Told.{Told, Known}
-use Rattle.mb_stream.specs.Working.{news, behind as behind_entry, data_news, RisesFrom}
+use Rattle.mb_stream.specs.Working.{news, group_behind as behind_entry, data_news, RisesFrom}
 use Rattle.mb_stream.specs.Working as stream
 use Rattle.mb_ble.specs.Packets.{Token, Data, Ends, Stamp, byte_token, tokens, clock, running, is_full, resumed, payload, spot}
 use Rattle.mb_ble.specs.Reading.{lone, onto}
