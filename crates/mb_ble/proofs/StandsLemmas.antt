@@ -25,16 +25,21 @@ pub stands-put : (old new : Writer) (moment : ℕ) (e : Ev) (puts : List Put) �
     new.in_sysex ≡ open_behind old.in_sysex e → new.packet ≡ after_all old.packet moment (signs_of_event e) →
     Stands old puts → Stands new (puts ++ puts_at moment (signs_of_event e))
 stands-put old new moment e puts suits opened packet s =
-    let more : signs_in (puts ++ puts_at moment (signs_of_event e)) ≡ signs_in puts ++ signs_of_event e = signs_in-more puts moment (signs_of_event e) in
+    let more : signs_in (puts ++ puts_at moment (signs_of_event e)) ≡ signs_in puts ++ signs_of_event e =
+        signs_in-more puts moment (signs_of_event e) in
     record {
-      each_suits = ap suited more ∙ joined (signs_in puts) e s.each_suits (subst (λ (o : Bool). suits_event o e ≡ true) s.open_now suits);
+      each_suits = ap suited more ∙ joined (signs_in puts) e s.each_suits (subst (λ (o : Bool). suits_event o e ≡ true)
+          s.open_now suits);
       open_now =
           opened ∙ sym (open_from-event old.in_sysex e suits) ∙
-          ap (λ (o : Bool). open_from o (signs_of_event e)) s.open_now ∙ sym (is_open-append (signs_in puts) (signs_of_event e)) ∙ ap is_open (sym more);
-      holds = subst (λ (p : OpenPacket). Holds p (puts ++ puts_at moment (signs_of_event e))) (sym packet) (all_hold old.packet puts moment (signs_of_event e) s.holds).0;
+          ap (λ (o : Bool). open_from o (signs_of_event e)) s.open_now ∙
+              sym (is_open-append (signs_in puts) (signs_of_event e)) ∙ ap is_open (sym more);
+      holds = subst (λ (p : OpenPacket). Holds p (puts ++ puts_at moment (signs_of_event e))) (sym packet)
+          (all_hold old.packet puts moment (signs_of_event e) s.holds).0;
     }
 
-pub live-more : (w : Writer) (moment : ℕ) (ms : List Sign) (puts : List Put) (old new : List ℕ) → new ≡ old ++ given_all w.packet moment ms → Stands w puts →
+pub live-more : (w : Writer) (moment : ℕ) (ms : List Sign) (puts : List Put) (old new : List ℕ) → new ≡ old ++
+    given_all w.packet moment ms → Stands w puts →
     Appended old new (ble_live w.packet.size puts) (ble_live w.packet.size (puts ++ puts_at moment ms))
 live-more w moment ms puts old new written s = record {
   wrote = given_all w.packet moment ms;
@@ -45,7 +50,8 @@ live-more w moment ms puts old new written s = record {
       ∙ ap (λ z. z ++ given_all w.packet moment ms) (sym (live_law w.packet.size puts));
 }
 
-pub stands-flush : (old new : Writer) (puts : List Put) → new.in_sysex ≡ old.in_sysex → new.packet ≡ nothing old.packet.size →
+pub stands-flush : (old new : Writer) (puts : List Put) → new.in_sysex ≡ old.in_sysex →
+    new.packet ≡ nothing old.packet.size →
     Stands old puts → Stands new (puts ++ Flush ∷ [])
 stands-flush old new puts opened packet s =
     let same : signs_in (puts ++ Flush ∷ []) ≡ signs_in puts = signs_in-flush puts in
@@ -65,7 +71,8 @@ live-flush w puts old new written s = record {
       ∙ ap (λ z. z ++ flushed_in w.packet) (sym (live_law w.packet.size puts));
 }
 
-pub written-rest : (w : Writer) (puts : List Put) (old new : List ℕ) → new ≡ old ++ flushed_in w.packet → Stands w puts →
+pub written-rest : (w : Writer) (puts : List Put) (old new : List ℕ) → new ≡ old ++ flushed_in w.packet →
+    Stands w puts →
     Appended old new (ble_live w.packet.size puts) (ble_written w.packet.size puts)
 written-rest w puts old new written s = record {
   wrote = flushed_in w.packet;

@@ -7,7 +7,8 @@
 --   ble_answer, seen_of          what a step tells, with its moment and without
 --   BrokenNext now left          what breaks a message stands next: a status in the input, or a packet's end
 --   Holds, Read, Reads, Counts   the same of the content of a packet, whatever its room and whatever follows
-use Rattle.std.specs.Prelude.{◌≡◌, ℕ, ◌+◌, ◌-◌, ◌<◌, ◌≤◌, ◌⊎◌, Bool, true, false, if◌then◌else◌, List, [], ◌∷◌, ◌++◌, map, length, Option, Some, None}
+use Rattle.std.specs.Prelude.{◌≡◌, ℕ, ◌+◌, ◌-◌, ◌<◌, ◌≤◌, ◌⊎◌, Bool, true, false, if◌then◌else◌, List, [], ◌∷◌, ◌++◌}
+use Rattle.std.specs.Prelude.{map, length, Option, Some, None}
 use Rattle.mb_din.specs.Reader.{Stands}
 use Rattle.mb_message.specs.declared.event.Seen.{Seen}
 use Rattle.mb_din.specs.State.{State}
@@ -21,7 +22,8 @@ use Rattle.mb_stream.specs.Reading.{Part, part_of, part_at, so_far}
 use Rattle.mb_stream.specs.Told.{Told, Known, may_run}
 use Rattle.mb_message.specs.declared.note.NoteKind.TheVariants.{LoneStamp}
 use Rattle.mb_frames.specs.Counting.{rest_parts}
-use Rattle.mb_ble.specs.Packets.{Token, Begins, Skipped, Stamp, Ends, byte_token, tokens, clock, running, is_full, payload, all_tokens}
+use Rattle.mb_ble.specs.Packets.{Token, Begins, Skipped, Stamp, Ends, byte_token, tokens, clock, running, is_full}
+use Rattle.mb_ble.specs.Packets.{payload, all_tokens}
 use Rattle.mb_ble.specs.Reading.{lone, noted, ble_known, onto, whole_from, ble_whole}
 use Rattle.mb_ble.specs.News.{news_from}
 use Rattle.mb_ble.specs.State.{Calm, is_between, ble_offset, ble_moment}

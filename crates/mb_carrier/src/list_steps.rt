@@ -9,7 +9,8 @@ ghost use Rattle.mb_outside.specs.Cause.{HasCause};
 ghost use Rattle.mb_outside.specs.Taking.{TookFront};
 ghost use Rattle.mb_print.specs.Lines.{mark_text, note_text};
 ghost use Rattle.mb_stream.specs.ReaderLaw.{answer, told_by};
-ghost use Rattle.mb_carrier.specs.ListSteps.{lines_told, has_notes, Gathered, ListStands, ListFed, ListHalted, ListEnded};
+ghost use Rattle.mb_carrier.specs.ListSteps.{lines_told, has_notes, Gathered, ListStands, ListFed, ListHalted};
+ghost use Rattle.mb_carrier.specs.ListSteps.{ListEnded};
 ghost use Rattle.mb_carrier.specs.ListSteps.{ListEndHalted};
 
 use crate::EventReader;

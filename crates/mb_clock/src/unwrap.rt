@@ -59,8 +59,8 @@ impl Unwrap {
         ensures clock { self.new ≡ stamped self.old low }
         ensures moment { result ≡ self.new.moment }
         // For all packets and stamps so far.
-        ensures all { (packets : List StampedPacket) (packet : StampedPacket) → self.old ≡ clock_of (packets ++ packet ∷ []) →
-            self.new ≡ clock_of (packets ++ with_stamp packet low ∷ []) }
+        ensures all { (packets : List StampedPacket) (packet : StampedPacket) →
+            self.old ≡ clock_of (packets ++ packet ∷ []) → self.new ≡ clock_of (packets ++ with_stamp packet low ∷ []) }
         ensures least { IsNextMoment self.old.moment (128 * self.new.upper + low) result }
     {
         if low < self.lower {

@@ -5,7 +5,8 @@ ghost use Rattle.mb_frames.specs.Frames.{AreBytes, Cut, FramePart, IsUnfinished,
 ghost use Rattle.mb_frames.specs.Frames.{unfinished_parts};
 ghost use Rattle.mb_frames.specs.Counting.{counted_parts};
 ghost use Rattle.mb_frames.specs.Reading.{IsWhole, Place, Stands, from, is_at_end};
-ghost use Rattle.mb_frames.specs.Tapes.{AreRecords, Record, RecordPart, Whole, record_parts, tape, tape_parts, tape_read};
+ghost use Rattle.mb_frames.specs.Tapes.{AreRecords, Record, RecordPart, Whole, record_parts, tape, tape_parts};
+ghost use Rattle.mb_frames.specs.Tapes.{tape_read};
 ghost use Rattle.mb_frames.specs.TapeSteps.{TapeState, behind_records, ending_from, fresh, parts_from};
 ghost use Rattle.mb_frames.specs.TapeReading.{TapeStands};
 ghost use Rattle.mb_frames.specs.Migrated.{record_in_microseconds, tape2};

@@ -249,7 +249,8 @@ pub answered : (words : List (List ℕ)) (limit : ℕ) (before mid after : Conte
     Faulted reads reads_mid faults faults_mid status → after ≡ after_write 2 text mid →
     Says (Rose faults_mid faults_now) text (text_of status) → (text ≡ text_of status → faults_now ≡ faults_mid) →
     Answered words limit before after faults faults_now answer
-answered words limit before mid after reads reads_mid faults faults_mid faults_now status answer text number r fault wrote says told =
+answered words limit before mid after reads reads_mid faults faults_mid faults_now status answer text number r fault
+    wrote says told =
     subst (λ (c : Contents). Answered words limit before c faults faults_now answer) (sym all)
     (record {
       moved = moved r.input r.output (r.tally ++ text) before r.front;

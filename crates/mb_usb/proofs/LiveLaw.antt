@@ -12,7 +12,8 @@ use Rattle.mb_stream.proofs.ByteKinds.{One, Two, Kind, DataKind, ChannelKind, Co
 use Rattle.mb_stream.proofs.ByteKinds.{EndKind, OtherKind, RtKind, OtherRtKind}
 use Rattle.mb_stream.proofs.LackLemmas.{lacks-marks}
 use Rattle.mb_stream.proofs.LiteralMarks.{heard_bytes}
-use Rattle.mb_stream.proofs.Machine.{Reader, Rest, Waits, Ready, Begun, Inside, ends, at_data, at_end, tells, after, tell}
+use Rattle.mb_stream.proofs.Machine.{Reader, Rest, Waits, Ready, Begun, Inside, ends, at_data, at_end, tells, after}
+use Rattle.mb_stream.proofs.Machine.{tell}
 use Rattle.mb_stream.proofs.Machine.{read, behind, read-append, read-tell}
 use Rattle.mb_stream.proofs.Passable.{Passable, Passable-append}
 use Rattle.mb_stream.proofs.ReadMarks.{Suit-read}

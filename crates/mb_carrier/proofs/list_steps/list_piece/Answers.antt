@@ -31,7 +31,8 @@ events-preserved g c =
       sound = c.in_default-list_seen.ensures.sound ∙ c.events.invariant.sound;
       listing = listing-step _ _ _ _ _ _ _ _ _ _ _ _ _ _ _ _ _ _ _ c.in-Some.seen (λ x y. g.met.K.Out.both _ _ _ x y)
           c.events.invariant.reads c.moment-moment.ensures
-          (noted-more _ _ _ c.is_note.ensures) c.events.invariant.listing c.in-Some.ensures.goes c.in_default-list_seen.ensures.ok;
+          (noted-more _ _ _ c.is_note.ensures) c.events.invariant.listing c.in-Some.ensures.goes
+              c.in_default-list_seen.ensures.ok;
     }
 
 pub returns-clause-fed : goal.returns-clause-fed
