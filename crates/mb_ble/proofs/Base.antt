@@ -42,7 +42,7 @@ in_order-middle key [] y ys a b = put_in-first (λ k. k) y (in_order (λ k. k) y
     firsts (z ∷ zs) a = (a.0.first, firsts zs a.1)
 in_order-middle key (x ∷ xs) y ys a b =
     ap (put_in (λ k. k) x) (in_order-middle key xs y ys a.1 b) ∙ put_middle y x (in_order (λ k. k) (xs ++ ys))
-        a.0.second
+    a.0.second
 
 -- all at one offset, with rising ranks, none above 3
 abbrev pub Climb : ℕ → ℕ → List Known → Type 0
@@ -97,8 +97,8 @@ climb-told x = by (x.byte == 0xf0) (x.byte == 0xf6) ((x.byte == 0xf4) || (x.byte
   where
     by : (sysex tune undefined : Bool) →
         Climb x.at 2 (if sysex then known_at 3 x (Marks OpenSign) ∷ [] else
-            (if tune then known_at 3 x (Marks (ShortSign 0xf6 0 0)) ∷ [] else
-            (if undefined then known_at 3 x (Notes x.at Undefined) ∷ [] else [])))
+        (if tune then known_at 3 x (Marks (ShortSign 0xf6 0 0)) ∷ [] else
+        (if undefined then known_at 3 x (Notes x.at Undefined) ∷ [] else [])))
     by true tune undefined = (refl, omega arith, omega arith)
     by false true undefined = (refl, omega arith, omega arith)
     by false false true = (refl, omega arith, omega arith)
@@ -111,7 +111,7 @@ end_tells_nothing x e =
 
 climb-ended : (e7 op : Bool) (x : Spot) → (x.byte == 0xf7) ≡ e7 →
     Climb x.at 1 ((if e7 then (if op then known_at 3 x (Marks EndSign) ∷ [] else known_at 3 x (Notes x.at StrayEnd) ∷
-        []) else (if op then known_at 2 x (Marks AbortSign) ∷ [] else [])) ++ status_told x)
+    []) else (if op then known_at 2 x (Marks AbortSign) ∷ [] else [])) ++ status_told x)
 climb-ended true true x e = rw (end_tells_nothing x e) (refl, omega arith, omega arith)
 climb-ended true false x e = rw (end_tells_nothing x e) (refl, omega arith, omega arith)
 climb-ended false true x e = (refl, omega arith, climb-told x)
@@ -169,7 +169,7 @@ pub told-all : (s : State) (es : List Entry) (told : List Known) → Stands s es
     told ≡ so_far es
 told-all s es told st still =
     st.told_is ∙ ap (λ z. so_far es ++ z) (nothing-behind (so_far es) st.ahead still.0 (still.1 ∙
-        ap (λ z. z ++ still.0) st.told_is)) ∙ append-nil (so_far es)
+    ap (λ z. z ++ still.0) st.told_is)) ∙ append-nil (so_far es)
 
 -- how many data bytes a status has
 abbrev pub IsLen : Bool → ℕ → Type 0
@@ -178,7 +178,7 @@ IsLen false k = (k ≡ 0) ⊎ ((k ≡ 1) ⊎ (k ≡ 2))
 
 len_by : (c o a b d : Bool) (k : ℕ) →
     (if c then Some (if o then 1 else 2) else (if a then Some 1 else
-        (if b then Some 2 else (if d then Some 0 else None)))) ≡ Some k → IsLen c k
+    (if b then Some 2 else (if d then Some 0 else None)))) ≡ Some k → IsLen c k
 len_by true true a b d k is = inl cc
 len_by true false a b d k is = inr cc
 len_by false o true b d k is = inr (inl cc)

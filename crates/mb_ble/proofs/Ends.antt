@@ -55,11 +55,11 @@ parts-not before l o (h ∷ []) = tt
 parts-not before l o (h ∷ g ∷ bytes) =
     let n : ℕ = 256 * h + g in
     Each-append (Not o) (token_news before (Begins o n)) (news_from (Begins o n ∷ before) (tokens (o + 2) (Begins o n)
-        (rest_parts n bytes)))
+    (rest_parts n bytes)))
     (note (n == 0)) (above-not o (news_from (Begins o n ∷ before) (tokens (o + 2) (Begins o n) (rest_parts n bytes)))
     (Aboves-lower (7 * o + 5) (7 * o + 12) (news_from (Begins o n ∷ before) (tokens (o + 2) (Begins o n)
-        (rest_parts n bytes))) (omega arith) (news-above (tokens (o + 2) (Begins o n) (rest_parts n bytes))
-        (Begins o n ∷ before) (7 * o + 12) (rise-rest n bytes (o + 2) (Begins o n) (7 * o + 12) (omega arith)))))
+    (rest_parts n bytes))) (omega arith) (news-above (tokens (o + 2) (Begins o n) (rest_parts n bytes))
+    (Begins o n ∷ before) (7 * o + 12) (rise-rest n bytes (o + 2) (Begins o n) (7 * o + 12) (omega arith)))))
   where
     note : (c : Bool) → Each (Not o) ((if c then noted 4 (clock before).moment (o + 1) o EmptyPacket ∷ [] else []) ++
         [])
@@ -81,8 +81,11 @@ cut-not : (o : ℕ) (g : Group) (k : Cut) (c : Bool) → Each (Not o) (if c then
 cut-not o g k true = tt
 cut-not o g k false = by (begun_at g)
   where
-    by : (x : Option ℕ) → Each (Not o) (elim x as (λ _. List Known) [ None ↦ [] | Some at ↦ noted 6 k.moment k.at at
-        Truncated ∷ [] ])
+    by : (x : Option ℕ) → Each (Not o) (elim x as (λ _. List Known) [
+      | None ↦ []
+      | Some at ↦ noted 6 k.moment k.at at
+          Truncated ∷ []
+    ])
     by None = tt
     by (Some at) = (λ e. absurd (omega (arith, e.2)), tt)
 
@@ -90,8 +93,8 @@ end-not : (before : List Token) (o a : ℕ) (rest : List Known) → Each (Not o)
     Each (Not o) (token_news before (Ends a) ++ rest)
 end-not before o a rest r =
     Each-append (Not o) (token_news before (Ends a)) rest (Each-append (Not o) (lone false 5 a before)
-        (byte_news before (Ends a)) (lone-not o a before) (cut-not o (last_of (payload before)) (cut_at before a)
-        (is_sysex (last_of (payload before))))) r
+    (byte_news before (Ends a)) (lone-not o a before) (cut-not o (last_of (payload before)) (cut_at before a)
+    (is_sysex (last_of (payload before))))) r
 
 -- behind a content nothing is early, and a stamp's note is told or there is none
 record AtEnd (was : Content) (before : List Token) (ahead : List Known) (holds : Holds was before ahead) : Type 0 where
@@ -151,11 +154,11 @@ at-end was before ahead holds rest inside nots front = by was.head refl inside h
         spent (inr is) = record {
           early = none-early was.offset holds.early (byte_news before (Ends (was.offset - 1)) ++ rest) holds.are_early
               (front-off (five ∷ []) holds.early (byte_news before (Ends (was.offset - 1)) ++ rest)
-                  (subst (λ z. IsFront (z ++ holds.early) (five ∷ (byte_news before (Ends (was.offset - 1)) ++ rest)))
-                  is.0 (subst (IsFront (holds.stamp ++ holds.early)) whole_is with_stamp)))
+              (subst (λ z. IsFront (z ++ holds.early) (five ∷ (byte_news before (Ends (was.offset - 1)) ++ rest)))
+              is.0 (subst (IsFront (holds.stamp ++ holds.early)) whole_is with_stamp)))
               (Each-append (Not was.offset) (byte_news before (Ends (was.offset - 1))) rest
-                  (cut-not was.offset (last_of (payload before)) (cut_at before (was.offset - 1))
-                  (is_sysex (last_of (payload before)))) nots);
+              (cut-not was.offset (last_of (payload before)) (cut_at before (was.offset - 1))
+              (is_sysex (last_of (payload before)))) nots);
           note = λ n. one ∙ sym is.0;
         }
 
@@ -172,7 +175,7 @@ pub end_stamp_tells : (was now : Position) (input : List ℕ) (at moment : ℕ) 
     is_at_end was.frames ≡ true → was.content.head ≡ head.Stamped at → now.content ≡ (let c : Content = was.content in
     record c { head = head.Spent }) → now.frames ≡ was.frames →
     moment ≡ was.content.clock.moment → seen ≡ record { moment = moment; told = Notes at LoneStamp } ∷ [] →
-        BleTells was now input input seen
+    BleTells was now input input seen
 end_stamp_tells was now input at moment seen fit e h same frames mom told = tells-step was now input input seen
     (λ before ahead holds front. by before ahead holds front)
   where
@@ -187,12 +190,12 @@ end_stamp_tells was now input at moment seen fit e h same frames mom told = tell
         let rest : List Known = news_from (Ends (o - 1) ∷ before) (tokens o (Ends (o - 1)) (counted_parts input)) in
         let toks = end-tokens was.frames o (last before) input f in
         let s : (holds.stamp ≡ []) × ((low : Bool) (rank known_at : ℕ) → lone low rank known_at before ≡
-            (if low then [] else noted rank (clock before).moment known_at at LoneStamp ∷ [])) =
-            subst (λ k. StampIs k o before holds.stamp) h holds.stamp_is in
+        (if low then [] else noted rank (clock before).moment known_at at LoneStamp ∷ [])) =
+        subst (λ k. StampIs k o before holds.stamp) h holds.stamp_is in
         let there : IsFront ahead (token_news before (Ends (o - 1)) ++ rest) =
-            subst (λ z. IsFront ahead (news_from before z)) toks front in
+        subst (λ z. IsFront ahead (news_from before z)) toks front in
         let a : AtEnd c before ahead holds = at-end c before ahead holds rest l.0 (parts-not (Ends (o - 1) ∷ before)
-            (Ends (o - 1)) o input) there in
+        (Ends (o - 1)) o input) there in
         let none : ahead ≡ [] = holds.told_is ∙ ap (λ z. z ++ holds.early) s.0 ∙ a.early in
         let note : Known = noted 5 (clock before).moment (o - 1) at LoneStamp in
         let goes : Content = record c { head = head.Spent } in
@@ -212,9 +215,12 @@ end_stamp_tells was now input at moment seen fit e h same frames mom told = tell
           rested = λ e. refl;
         } in
         let still : IsFront (ahead ++ note ∷ []) (token_news before (Ends (o - 1)) ++ rest) =
-            subst (λ z. IsFront (z ++ note ∷ []) (token_news before (Ends (o - 1)) ++ rest)) (sym none)
-        ((byte_news before (Ends (o - 1)) ++ rest, ap (λ z. (z ++ byte_news before (Ends (o - 1))) ++ rest)
-            (s.1 false 5 (o - 1)))) in
+        subst (λ z. IsFront (z ++ note ∷ []) (token_news before (Ends (o - 1)) ++ rest)) (sym none)
+        ((
+          byte_news before (Ends (o - 1)) ++ rest,
+          ap (λ z. (z ++ byte_news before (Ends (o - 1))) ++ rest)
+              (s.1 false 5 (o - 1)),
+        )) in
         record {
           new = [];
           taken = [];
@@ -243,10 +249,16 @@ truncated-same : (g : Group) (moment m a : ℕ) → moment ≡ m → is_sysex g 
     (at_end g)
 truncated-same g moment m a e o = by (begun_at g) (is_sysex g) o
   where
-    by : (x : Option ℕ) (p : Bool) → p ≡ false → map part_of (elim x as (λ _. List Known) [ None ↦ [] | Some at ↦ noted
-        6 m a at Truncated ∷ [] ])
-        ≡ map (λ t. record { moment = moment; told = t }) ((elim x as (λ _. List Told) [ None ↦ [] | Some at ↦ Notes at
-            Truncated ∷ [] ]) ++ (if p then Marks AbortSign ∷ [] else []))
+    by : (x : Option ℕ) (p : Bool) → p ≡ false → map part_of (elim x as (λ _. List Known) [
+      | None ↦ []
+      | Some at ↦ noted
+          6 m a at Truncated ∷ []
+    ])
+        ≡ map (λ t. record { moment = moment; told = t }) ((elim x as (λ _. List Told) [
+          | None ↦ []
+          | Some at ↦ Notes at
+              Truncated ∷ []
+        ]) ++ (if p then Marks AbortSign ∷ [] else []))
     by x true n = absurd (false≢true (sym n))
     by None false n = refl
     by (Some at) false n = ap (λ k. record { moment = k; told = Notes at Truncated } ∷ []) (sym e)
@@ -256,7 +268,7 @@ pub end_groups_tells : (was now : Position) (input : List ℕ) (moment : ℕ) (s
     is_at_end was.frames ≡ true → ((at : ℕ) → was.content.head ≡ head.Stamped at → ⊥) → EndedBy was.content now.content
     seen → now.frames ≡ Between →
     moment ≡ was.content.clock.moment → BleTells was now input input (map (λ t. record { moment = moment; told = t })
-        seen)
+    seen)
 end_groups_tells was now input moment seen fit e no_stamp ended frames mom = tells-step was now input input
     (map (λ t. record { moment = moment; told = t }) seen) (λ before ahead holds front. by before ahead holds front)
   where
@@ -313,8 +325,11 @@ end_groups_tells was now input moment seen fit e no_stamp ended frames mom = tel
             stamp = [];
             early = [];
             told_is = refl;
-            stamp_is = subst (λ k. StampIs k now.content.offset (t ∷ before) []) (sym ended.head) (refl, λ low rank ka.
-                refl);
+            stamp_is = subst (λ k. StampIs k now.content.offset (t ∷ before) []) (sym ended.head) (
+              refl,
+              λ low rank ka.
+                  refl,
+            );
             din = subst (λ z. Stands now.content.din (payload (t ∷ before)) z)
                 (sym (append-nil (so_far (payload (t ∷ before))))) din;
             are_early = tt;
@@ -343,15 +358,15 @@ end_groups_tells was now input moment seen fit e no_stamp ended frames mom = tel
         at true p =
             let q = ended.opened es (rest_stands was.content before ahead holds a.early) p in
             steps [] (ap (λ c. if c then [] else cut_told g (Some (cut_at before (was.content.offset - 1)))) p)
-                (ap (map (λ t. record { moment = moment; told = t })) (sym q.0))
+            (ap (map (λ t. record { moment = moment; told = t })) (sym q.0))
             (subst (λ c. Stands now.content.din (if c then es else []) (so_far (if c then es else []))) (sym p)
-                (subst (λ d. Stands d es (so_far es)) (sym q.1) (rest_stands was.content before ahead holds a.early)))
+            (subst (λ d. Stands d es (so_far es)) (sym q.1) (rest_stands was.content before ahead holds a.early)))
         at false p =
             let q = ended.closed es (rest_stands was.content before ahead holds a.early) p in
             steps (cut_told g (Some (cut_at before (was.content.offset - 1))))
-                (ap (λ c. if c then [] else cut_told g (Some (cut_at before (was.content.offset - 1)))) p)
+            (ap (λ c. if c then [] else cut_told g (Some (cut_at before (was.content.offset - 1)))) p)
             (truncated-same g moment (clock before).moment (was.content.offset - 1) (mom ∙
-                ap (λ k. k.moment) holds.clock_is) p ∙ ap (map (λ t. record { moment = moment; told = t })) (sym q.0))
+            ap (λ k. k.moment) holds.clock_is) p ∙ ap (map (λ t. record { moment = moment; told = t })) (sym q.0))
             (subst (λ c. Stands now.content.din (if c then es else []) (so_far (if c then es else []))) (sym p) q.1)
 
 -- the recording's end
@@ -378,8 +393,11 @@ end-nothing was before ahead holds inside all = (a.early, by was.head refl insid
     t = Ends (was.offset - 1)
 
     a : AtEnd was before ahead holds
-    a = at-end was before ahead holds [] inside tt (([], append-nil (token_news before t) ∙ sym all ∙
-        sym (append-nil ahead)))
+    a = at-end was before ahead holds [] inside tt ((
+      [],
+      append-nil (token_news before t) ∙ sym all ∙
+          sym (append-nil ahead),
+    ))
 
     stamp_is : holds.stamp ≡ unit_note before t ++ byte_news before t
     stamp_is = sym (append-nil holds.stamp) ∙ ap (λ z. holds.stamp ++ z) (sym a.early) ∙ sym holds.told_is ∙ all
@@ -394,9 +412,9 @@ end-nothing was before ahead holds inside all = (a.early, by was.head refl insid
     by head.Spent e z s =
         let n : lone false 5 (was.offset - 1) before ≡ holds.stamp = a.note (λ at h. not_both at (sym h ∙ e)) in
         let one : lone false 5 (was.offset - 1) before ≡ noted 5 (clock before).moment (was.offset - 1) s.0 LoneStamp ∷
-            [] = s.2 false 5 (was.offset - 1) in
+        [] = s.2 false 5 (was.offset - 1) in
         one-front (noted 5 (clock before).moment (was.offset - 1) s.0 LoneStamp) (byte_news before t)
-            (ap (λ z. z ++ byte_news before t) (sym one) ∙ sym stamp_is ∙ sym n ∙ one)
+        (ap (λ z. z ++ byte_news before t) (sym one) ∙ sym stamp_is ∙ sym n ∙ one)
       where
         not_both : (at : ℕ) → head.Stamped at ≡ head.Spent → ⊥
         not_both at e = cc
@@ -413,11 +431,14 @@ end-same before a moment e = by (is_sysex (last_of (payload before))) refl e
     by true o e = refl
     by false o e = none (begun_at g) (is_sysex g) o e
       where
-        none : (x : Option ℕ) (p : Bool) → p ≡ false → (elim x as (λ _. List Known) [ None ↦ [] | Some at ↦ noted 6
-            (clock before).moment a at Truncated ∷ [] ]) ≡ [] →
+        none : (x : Option ℕ) (p : Bool) → p ≡ false → (elim x as (λ _. List Known) [
+          | None ↦ []
+          | Some at ↦ noted 6
+              (clock before).moment a at Truncated ∷ []
+        ]) ≡ [] →
             map {B = Part} (λ t. record { moment = moment; told = t })
-                ((elim x as (λ _. List Told) [ None ↦ [] | Some at ↦ Notes at Truncated ∷ [] ]) ++
-                (if p then Marks AbortSign ∷ [] else [])) ≡ []
+            ((elim x as (λ _. List Told) [ None ↦ [] | Some at ↦ Notes at Truncated ∷ [] ]) ++
+            (if p then Marks AbortSign ∷ [] else [])) ≡ []
         none x true n e = absurd (false≢true (sym n))
         none None false n e = refl
         none (Some at) false n e = absurd (cons_nil (noted 6 (clock before).moment a at Truncated) [] e)
@@ -458,9 +479,9 @@ finish_tells was moment seen result fit mom told is bytes st = is ∙ by was.fra
     quiet e =
         let none : st.ahead ≡ [] = ahead_is ∙ ap (news_from b) e in
         let last_is : last_tokens bytes ≡ b = ap (onto []) (toks ∙ ap (λ z. st.taken ++ z) e ∙ append-nil st.taken) ∙
-            sym st.before_is in
+        sym st.before_is in
         seen_now (nil-front st.holds.stamp st.holds.early (sym st.holds.told_is ∙ none)) ∙
-            ap (λ z. finished (clock z).moment (payload z)) (sym last_is)
+        ap (λ z. finished (clock z).moment (payload z)) (sym last_is)
 
     by : (f : Place) → was.frames ≡ f → Linked f was.content → map (λ t. record { moment = moment; told = t }) seen ≡
         ble_end bytes
@@ -472,14 +493,17 @@ finish_tells was moment seen result fit mom told is bytes st = is ∙ by was.fra
         let t : Token = Ends (o - 1) in
         let one : tokens o (last b) (from was.frames []) ≡ t ∷ [] = ap (λ q. tokens o (last b) (from q [])) e in
         let n = end-nothing was.content b st.ahead st.holds l.0 (ahead_is ∙ ap (news_from b) one ∙
-            append-nil (token_news b t)) in
+        append-nil (token_news b t)) in
         let last_is : last_tokens bytes ≡ t ∷ b = ap (onto []) (toks ∙ ap (λ z. st.taken ++ z) one) ∙
-            onto-append st.taken (t ∷ []) [] ∙ ap (λ z. t ∷ z) (sym st.before_is) in
+        onto-append st.taken (t ∷ []) [] ∙ ap (λ z. t ∷ z) (sym st.before_is) in
         seen_now n.0 ∙ end-same b (o - 1) (clock b).moment n.1 ∙ ap (λ z. finished (clock z).moment (payload z))
-            (sym last_is)
+        (sym last_is)
 
-pub finish_fit : (was : Position) (c : Content) → c ≡ (let k : Content = was.content in record k { running = None; din =
-    c.din }) → c.din.offset ≡ was.content.din.offset → Fit was → Fit (record { frames = was.frames; content = c })
+pub finish_fit : (was : Position) (c : Content) → c ≡ (let k : Content = was.content in record k {
+  running = None;
+  din =
+      c.din;
+}) → c.din.offset ≡ was.content.din.offset → Fit was → Fit (record { frames = was.frames; content = c })
 finish_fit was c is low fit = record {
   calm = record {
     low = omega (arith, fit.calm.low, low, ap (λ k. k.offset) is);
@@ -489,8 +513,10 @@ finish_fit was c is low fit = record {
   linked = subst (λ k. Linked was.frames k) (sym is) (by was.frames fit.linked);
 }
   where
-    by : (f : Place) → Linked f was.content → Linked f (let k : Content = was.content in record k { running = None;
-        din = c.din })
+    by : (f : Place) → Linked f was.content → Linked f (let k : Content = was.content in record k {
+      running = None;
+      din = c.din;
+    })
     by Between l = l
     by (High h) l = l
     by (Within n) l = l

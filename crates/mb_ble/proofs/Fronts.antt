@@ -36,12 +36,12 @@ news-above (t ∷ ts) before low r =
     let le3 : s.up ≤ s.high = rising-le s.up s.high (realtimes_at before t) s.realtimes in
     Each-append (Above low) (token_news before t) (news_from (t ∷ before) ts)
     (Each-append (Above low) (unit_note before t) (byte_news before t) (rising-above low s.mid (unit_note before t)
-        s.notes)
+    s.notes)
     (subst (Each (Above low)) (sym (byte-two before t)) (Each-append (Above low) (groups_at before t)
-        (realtimes_at before t)
+    (realtimes_at before t)
     (Aboves-lower low s.mid (groups_at before t) le1 (rising-above s.mid s.up (groups_at before t) s.of_groups))
     (Aboves-lower low s.up (realtimes_at before t) (omega arith) (rising-above s.up s.high (realtimes_at before t)
-        s.realtimes)))))
+    s.realtimes)))))
     (Aboves-lower low s.high (news_from (t ∷ before) ts) (omega arith) (news-above ts (t ∷ before) s.high s.rest))
 
 abbrev pub Not : ℕ → Known → Type 0
@@ -61,8 +61,10 @@ none-early offset (k ∷ ks) whole e f n = absurd (first (subst (Each (Not offse
 
 Each-ranks : (offset low : ℕ) (ks : List Known) → 2 ≤ low → Climb offset low ks → Each (Not offset) ks
 Each-ranks offset low [] le c = tt
-Each-ranks offset low (k ∷ ks) le c = (λ e. absurd (omega (arith, e.2, c.1)),
-    Each-ranks offset k.rank ks (omega (arith, c.1)) c.2)
+Each-ranks offset low (k ∷ ks) le c = (
+  λ e. absurd (omega (arith, e.2, c.1)),
+  Each-ranks offset k.rank ks (omega (arith, c.1)) c.2,
+)
 
 -- before a data byte nothing is told ahead but a lone stamp
 pub data-not : (g : Group) (x : Spot) → is_data x.byte ≡ true → Each (Not x.at) (news g x)
@@ -123,8 +125,15 @@ pub record Fact (x : Spot) (k : Known) : Type 0 where
 
 climb-fact : (x : Spot) (low : ℕ) (ks : List Known) → 2 ≤ low → Climb x.at low ks → Each (Fact x) ks
 climb-fact x low [] le c = tt
-climb-fact x low (k ∷ ks) le c = (record { at = c.0; rank = omega (arith, c.1); common = λ h.
-    absurd (omega (arith, c.1, h)) }, climb-fact x k.rank ks (omega (arith, c.1)) c.2)
+climb-fact x low (k ∷ ks) le c = (
+  record {
+    at = c.0;
+    rank = omega (arith, c.1);
+    common = λ h.
+        absurd (omega (arith, c.1, h));
+  },
+  climb-fact x k.rank ks (omega (arith, c.1)) c.2,
+)
 
 fact : (x : Spot) (rank : ℕ) (t : Told) → 0 < rank → (rank < 3 → is_common (t ∷ []) ≡ false) →
     Fact x (known_at rank x t)
@@ -165,8 +174,8 @@ facts g x = by (is_realtime x.byte) (is_data x.byte)
         x)
     by false false = Each-append (Fact x) (ended g x) (status_told x)
         (Each-append (Fact x) (truncated g x) (if x.byte == 0xf7 then (if is_sysex g then known_at 3 x (Marks EndSign) ∷
-            [] else known_at 3 x (Notes x.at StrayEnd) ∷ []) else (if is_sysex g then known_at 2 x (Marks AbortSign) ∷
-            [] else [])) (cut (begun_at g)) (ends (x.byte == 0xf7) (is_sysex g)))
+        [] else known_at 3 x (Notes x.at StrayEnd) ∷ []) else (if is_sysex g then known_at 2 x (Marks AbortSign) ∷
+        [] else [])) (cut (begun_at g)) (ends (x.byte == 0xf7) (is_sysex g)))
         (told (x.byte == 0xf0) (x.byte == 0xf6) ((x.byte == 0xf4) || (x.byte == 0xf5)))
 
 pub each-front : (P : Known → Type 0) (xs ys : List Known) → Each P (xs ++ ys) → Each P xs
@@ -276,7 +285,7 @@ timely g x = by (is_realtime x.byte) (is_data x.byte)
     by false true = timely-data g.status g.data_bytes x
     by false false = Each-append (Timely x.moment) (ended g x) (status_told x)
         (Each-append (Timely x.moment) (truncated g x) (if x.byte == 0xf7 then
-            (if is_sysex g then known_at 3 x (Marks EndSign) ∷ [] else known_at 3 x (Notes x.at StrayEnd) ∷ []) else
-            (if is_sysex g then known_at 2 x (Marks AbortSign) ∷ [] else [])) (cut (begun_at g))
-            (ends (x.byte == 0xf7) (is_sysex g)))
+        (if is_sysex g then known_at 3 x (Marks EndSign) ∷ [] else known_at 3 x (Notes x.at StrayEnd) ∷ []) else
+        (if is_sysex g then known_at 2 x (Marks AbortSign) ∷ [] else [])) (cut (begun_at g))
+        (ends (x.byte == 0xf7) (is_sysex g)))
         (told (x.byte == 0xf0) (x.byte == 0xf6) ((x.byte == 0xf4) || (x.byte == 0xf5)))

@@ -67,7 +67,7 @@ common-full k s (d ∷ c ∷ ds) x (inr (inr e)) high less = absurd (two-full k 
 full-by : (sysex ch : Bool) (l : Option ℕ) (s : ℕ) (ds : List Spot) (x : Spot) → (s == 0xf0) ≡ sysex →
     is_channel s ≡ ch → data_length s ≡ l → (not ch && len_full l (length ds)) ≡ false →
     (not ch && len_full l (length (ds ++ x ∷ []))) ≡ common (if sysex then sysex_byte x ∷ [] else data_news_by l ch s ds
-        x)
+    x)
 full-by true true l s ds x a b c h = refl
 full-by true false None s ds x a b c h = refl
 full-by true false (Some k) s ds x a b c h = absurd (no_len s k a c)
@@ -87,7 +87,7 @@ full-by false false (Some k) s ds x a b c h = common-full k s ds x (subst (λ z.
     len-high : (c o a b d h : Bool) (k : ℕ) → c ≡ false → (a ≡ true → h ≡ true) → (b ≡ true → h ≡ true) →
         (d ≡ true → h ≡ true) →
         (if c then Some (if o then 1 else 2) else (if a then Some 1 else
-            (if b then Some 2 else (if d then Some 0 else None)))) ≡ Some k → h ≡ true
+        (if b then Some 2 else (if d then Some 0 else None)))) ≡ Some k → h ≡ true
     len-high true o a b d h k n fa fb fd is = absurd (false≢true (sym n))
     len-high false o true b d h k n fa fb fd is = fa refl
     len-high false o false true d h k n fa fb fd is = fb refl
@@ -106,8 +106,11 @@ full-by false false (Some k) s ds x a b c h = common-full k s ds x (subst (λ z.
         either s e = grind (arith, nat_tests)
 
 abbrev full_of : Option ℕ → List Spot → Bool
-full_of st ds = elim st as (λ _. Bool) [ None ↦ false | Some s ↦ not (is_channel s) && len_full (data_length s)
-    (length ds) ]
+full_of st ds = elim st as (λ _. Bool) [
+  | None ↦ false
+  | Some s ↦ not (is_channel s) && len_full (data_length s)
+      (length ds)
+]
 
 data-full : (st : Option ℕ) (ds : List Spot) (x : Spot) → full_of st ds ≡ false → full_of st (ds ++ x ∷ []) ≡
     common (data_news st ds x)
@@ -122,7 +125,7 @@ ended-quiet g x = ap is_common (tolds-append (truncated g x) (sysex_ended (is_sy
   where
     ors : (o : Option ℕ) (e7 op : Bool) → (common (truncated_at o x)
         || common (if e7 then (if op then known_at 3 x (Marks EndSign) ∷ [] else known_at 3 x (Notes x.at StrayEnd) ∷
-            []) else (if op then known_at 2 x (Marks AbortSign) ∷ [] else []))) ≡ false
+        []) else (if op then known_at 2 x (Marks AbortSign) ∷ [] else []))) ≡ false
     ors None true true = refl
     ors None true false = refl
     ors None false true = refl

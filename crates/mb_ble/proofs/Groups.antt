@@ -51,23 +51,26 @@ one-taken b (y ∷ z ∷ ys) left e = absurd (more b y z (ys ++ left) e)
 
 pub dined : (was now : State) (left : List ℕ) (seen : List Told) (es : List Entry) (early : List Known) (x : Spot) →
     Hands was now x.at (x.byte ∷ []) left seen → Stands was es (so_far es ++ early) →
-        (early ≡ []) ⊎ (was.offset ≡ x.at) → IsFront early (news (last_of es) x) → Dined now left seen es early x
+    (early ≡ []) ⊎ (was.offset ≡ x.at) → IsFront early (news (last_of es) x) → Dined now left seen es early x
 dined was now left seen es early x hands st here front =
     let told : List Known = so_far es ++ early in
     let placed : Stands hands.placed es told = hands.place es told (how here) st in
     let push : so_far (es ++ Heard x ∷ []) ≡ so_far es ++ news (last_of es) x = push_one es x hands.placed.offset
-        placed.rises (omega (arith, hands.there)) in
+    placed.rises (omega (arith, hands.there)) in
     let at_x : heard_from hands.placed.offset x.moment (x.byte ∷ []) ≡ Heard x ∷ [] =
-        ap (λ n. Heard (record { at = n; byte = x.byte; moment = x.moment }) ∷ []) hands.there in
-    let whole : IsFront told (so_far (es ++ Heard x ∷ [])) = (front.0, push ∙ ap (λ z. so_far es ++ z) front.1 ∙
-        sym (append_assoc (so_far es) early front.0)) in
+    ap (λ n. Heard (record { at = n; byte = x.byte; moment = x.moment }) ∷ []) hands.there in
+    let whole : IsFront told (so_far (es ++ Heard x ∷ [])) = (
+      front.0,
+      push ∙ ap (λ z. so_far es ++ z) front.1 ∙
+          sym (append_assoc (so_far es) early front.0),
+    ) in
     let g : DinGoes hands.placed now x.moment (x.byte ∷ []) left seen es told (Heard x ∷ []) =
     subst (λ z. DinGoes hands.placed now x.moment (x.byte ∷ []) left seen es told z) at_x (hands.next x.moment es told
-        placed (subst (λ z. IsFront told (so_far (es ++ z))) (sym at_x) whole)) in
+    placed (subst (λ z. IsFront told (so_far (es ++ z))) (sym at_x) whole)) in
     let same : told ++ g.fresh ≡ so_far es ++ (early ++ g.fresh) = append_assoc (so_far es) early g.fresh in
     let still : IsFront (early ++ g.fresh) (news (last_of es) x) = front-off (so_far es) (early ++ g.fresh)
-        (news (last_of es) x) (subst (λ z. IsFront z (so_far es ++ news (last_of es) x)) same
-        (subst (λ z. IsFront (told ++ g.fresh) z) push g.still)) in
+    (news (last_of es) x) (subst (λ z. IsFront z (so_far es ++ news (last_of es) x)) same
+    (subst (λ z. IsFront (told ++ g.fresh) z) push g.still)) in
     by told placed push at_x g same still (one-taken x.byte g.taken left g.front)
   where
     how : (early ≡ []) ⊎ (was.offset ≡ x.at) → (was.offset ≡ x.at) ⊎ (so_far es ++ early ≡ so_far es)
@@ -80,24 +83,27 @@ dined was now left seen es early x hands st here front =
     by : (told : List Known) (placed : Stands hands.placed es told) → so_far (es ++ Heard x ∷ []) ≡ so_far es ++
         news (last_of es) x → heard_from hands.placed.offset x.moment (x.byte ∷ []) ≡ Heard x ∷ [] →
         (g : DinGoes hands.placed now x.moment (x.byte ∷ []) left seen es told (Heard x ∷ [])) → told ++
-            g.fresh ≡ so_far es ++ (early ++ g.fresh) → IsFront (early ++ g.fresh) (news (last_of es) x) →
+        g.fresh ≡ so_far es ++ (early ++ g.fresh) → IsFront (early ++ g.fresh) (news (last_of es) x) →
         ((g.taken ≡ []) × (left ≡ x.byte ∷ [])) ⊎ ((g.taken ≡ x.byte ∷ []) × (left ≡ [])) →
-            Dined now left seen es early x
+        Dined now left seen es early x
     by told placed push at_x g same still (inl t) =
         let s0 : Stands now (es ++ heard_from hands.placed.offset x.moment []) (told ++ g.fresh) =
-            subst (λ z. Stands now (es ++ heard_from hands.placed.offset x.moment z) (told ++ g.fresh)) t.0 g.stands in
+        subst (λ z. Stands now (es ++ heard_from hands.placed.offset x.moment z) (told ++ g.fresh)) t.0 g.stands in
         let s1 : Stands now es (so_far es ++ (early ++ g.fresh)) = subst (λ z. Stands now es z) same
-            (subst (λ z. Stands now z (told ++ g.fresh)) (append-nil es) s0) in
+        (subst (λ z. Stands now z (told ++ g.fresh)) (append-nil es) s0) in
         let f : Each (Fact x) (early ++ g.fresh) = each-front (Fact x) (early ++ g.fresh) still.0
-            (subst (Each (Fact x)) still.1 (facts (last_of es) x)) in
+        (subst (Each (Fact x)) still.1 (facts (last_of es) x)) in
         let a : s1.ahead ≡ early ++ g.fresh = cancel (so_far es) s1.ahead (early ++ g.fresh) (sym s1.told_is) in
         record {
           fresh = g.fresh;
           answer_is = g.answer_is;
           front = still;
-          kept = λ e. (s1, zero-more now.offset x.at (ap (λ z. now.offset + length z) (sym t.1) ∙ hands.offset),
-              are-early x (early ++ g.fresh) now (state_of now.offset (last_of es)) f
-              (subst (IsAhead now (state_of now.offset (last_of es))) a s1.state));
+          kept = λ e. (
+            s1,
+            zero-more now.offset x.at (ap (λ z. now.offset + length z) (sym t.1) ∙ hands.offset),
+            are-early x (early ++ g.fresh) now (state_of now.offset (last_of es)) f
+                (subst (IsAhead now (state_of now.offset (last_of es))) a s1.state),
+          );
           taken = λ e. absurd (nil_cons x.byte (sym e ∙ t.1));
         }
       where
@@ -105,17 +111,19 @@ dined was now left seen es early x hands st here front =
         zero-more m n e = omega (arith, e)
     by told placed push at_x g same still (inr t) =
         let s0 : Stands now (es ++ Heard x ∷ []) (told ++ g.fresh) = subst (λ z. Stands now (es ++ z) (told ++ g.fresh))
-            (ap (λ z. heard_from hands.placed.offset x.moment z) t.0 ∙ at_x) g.stands in
+        (ap (λ z. heard_from hands.placed.offset x.moment z) t.0 ∙ at_x) g.stands in
         let all : told ++ g.fresh ≡ so_far (es ++ Heard x ∷ []) = told-all now (es ++ Heard x ∷ []) (told ++ g.fresh) s0
-            g.still in
+        g.still in
         record {
           fresh = g.fresh;
           answer_is = g.answer_is;
           front = still;
           kept = λ e. absurd (nil_cons x.byte (sym t.1 ∙ e));
-          taken = λ e. (subst (λ z. Stands now (es ++ Heard x ∷ []) z) all s0,
-              one-more now.offset x.at (ap (λ z. now.offset + length z) (sym t.1) ∙ hands.offset),
-              cancel (so_far es) (early ++ g.fresh) (news (last_of es) x) (sym same ∙ all ∙ push));
+          taken = λ e. (
+            subst (λ z. Stands now (es ++ Heard x ∷ []) z) all s0,
+            one-more now.offset x.at (ap (λ z. now.offset + length z) (sym t.1) ∙ hands.offset),
+            cancel (so_far es) (early ++ g.fresh) (news (last_of es) x) (sym same ∙ all ∙ push),
+          );
         }
       where
         one-more : (m n : ℕ) → m + length {A = ℕ} [] ≡ n + length (x.byte ∷ []) → m ≡ n + 1
@@ -133,10 +141,10 @@ pub full_seen : (es : List Entry) (x : Spot) (early fresh : List Known) (seen : 
     is_full (last_of (es ++ Heard x ∷ [])) ≡ is_common seen
 full_seen es x early fresh seen none are all same =
     let f : Each (Fact x) early = each-front (Fact x) early fresh (subst (Each (Fact x)) (sym all)
-        (facts (last_of es) x)) in
+    (facts (last_of es) x)) in
     ap is_full (last_of-append es (Heard x ∷ [])) ∙ full_law (last_of es) x none
     ∙ ap (λ z. is_common (tolds z)) (sym all) ∙ ap is_common (tolds-append early fresh) ∙
-        common-append (tolds early) (tolds fresh)
+    common-append (tolds early) (tolds fresh)
     ∙ ap₂ (λ a b. a || is_common b) (early-quiet x early f are) same
 
 -- the status that runs goes on
@@ -144,10 +152,14 @@ pub resumes_law : (run : Option ℕ) (common : Bool) (was now : State) (es : Lis
     ((s : ℕ) → run ≡ Some s → is_full (last_of es) ≡ common) → Stands was es (so_far es) →
     Stands now (resumed run es) (so_far (resumed run es)) × (now.offset ≡ was.offset)
 resumes_law None common was now es r full st = (subst (λ z. Stands z es (so_far es)) (sym r) st, ap (λ z. z.offset) r)
-resumes_law (Some s) true was now es r full st =
-    (subst (λ c. Stands now (if c then es ++ Silent s ∷ [] else es) (so_far (if c then es ++ Silent s ∷ [] else es)))
-        (sym (full s refl)) (subst (λ z. Stands now (es ++ Silent s ∷ []) z)
-        (sym (push_silent es s was.offset st.rises)) (r.1 es st)), r.0)
-resumes_law (Some s) false was now es r full st =
-    (subst (λ c. Stands now (if c then es ++ Silent s ∷ [] else es) (so_far (if c then es ++ Silent s ∷ [] else es)))
-        (sym (full s refl)) (subst (λ z. Stands z es (so_far es)) (sym r) st), ap (λ z. z.offset) r)
+resumes_law (Some s) true was now es r full st = (
+  subst (λ c. Stands now (if c then es ++ Silent s ∷ [] else es) (so_far (if c then es ++ Silent s ∷ [] else es)))
+      (sym (full s refl)) (subst (λ z. Stands now (es ++ Silent s ∷ []) z)
+      (sym (push_silent es s was.offset st.rises)) (r.1 es st)),
+  r.0,
+)
+resumes_law (Some s) false was now es r full st = (
+  subst (λ c. Stands now (if c then es ++ Silent s ∷ [] else es) (so_far (if c then es ++ Silent s ∷ [] else es)))
+      (sym (full s refl)) (subst (λ z. Stands z es (so_far es)) (sym r) st),
+  ap (λ z. z.offset) r,
+)

@@ -122,7 +122,7 @@ final-is : (input piece left final taken : List ℕ) (len used : ℕ) → len �
 final-is input piece left final taken len used short p f u e =
     let n : used ≡ length taken = omega (arith, u, used-is input piece left taken len used short p f u) in
     let cut : input ≡ taken ++ (left ++ drop len input) = take-and-drop len input ∙
-        (ap (λ z. z ++ drop len input) (sym p ∙ f) ∙ append_assoc taken left (drop len input)) in
+    (ap (λ z. z ++ drop len input) (sym p ∙ f) ∙ append_assoc taken left (drop len input)) in
     e ∙ (ap (λ k. drop k input) n ∙ (ap (drop (length taken)) cut ∙ drop-piece taken left (drop len input)))
 
 status-more : (xs ys : List ℕ) → StatusNext xs → StatusNext (xs ++ ys)
@@ -133,9 +133,11 @@ pub content_before : {R : Type 0} (input piece left final taken : List ℕ) (len
     len ≤ length input → piece ≡ take len input → piece ≡ taken ++ left → used ≡ len - length left →
     final ≡ drop used input →
     (breaks ts ≡ true → StatusNext left × R) → breaks ts ≡ true → StatusNext final × R
-content_before input piece left final taken len used ts short p f u e h b =
-    (subst StatusNext (sym (final-is input piece left final taken len used short p f u e))
-        (status-more left (drop len input) (h b).0), (h b).1)
+content_before input piece left final taken len used ts short p f u e h b = (
+  subst StatusNext (sym (final-is input piece left final taken len used short p f u e))
+      (status-more left (drop len input) (h b).0),
+  (h b).1,
+)
 
 room-passed : (p : Place) (used : ℕ) → room_of (passed p used) ≡ room_of p - used
 room-passed Between used = omega arith
@@ -157,7 +159,7 @@ left-is input piece left final taken len used room short fits which p f u e = by
     by (inl all) =
         let none : drop len input ≡ [] = drop-long len input (omega (arith, all)) in
         ap (take (room - used)) (fin ∙ (ap (λ z. left ++ z) none ∙ append-nil left)) ∙
-            take-long (room - used) left (omega (arith, n, u, fits))
+        take-long (room - used) left (omega (arith, n, u, fits))
     by (inr full) =
         let k : room - used ≡ length left = omega (arith, n, u, full) in
         ap (λ z. take z final) k ∙ (ap (take (length left)) fin ∙ take-front left (drop len input))
@@ -185,5 +187,5 @@ pub content_longest : (r : Option Seen) (was now : Place) (input piece left fina
     now ≡ passed was used → IfSome r (IsLongest left) → IfSome r (IsLongest (take (room_of now) final))
 content_longest r was now input piece left final taken len used short fits which p f u e moves l =
     subst (λ z. IfSome r (IsLongest z)) (sym (ap (λ z. take z final) (ap room_of moves ∙ room-passed was used) ∙
-        left-is input piece left final taken len used (room_of was) short fits (which-is len (room_of was)
-        (length input) fits short which) p f u e)) l
+    left-is input piece left final taken len used (room_of was) short fits (which-is len (room_of was)
+    (length input) fits short which) p f u e)) l

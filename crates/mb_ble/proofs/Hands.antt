@@ -27,7 +27,7 @@ hands_lem was p now at piece left seen there end same stands next = record {
   next = λ moment entries told st front. subst (λ z. DinGoes p now moment piece left seen entries told z)
       (append-nil (heard_from p.offset moment piece))
       (next moment entries told [] st tt (subst (λ z. IsFront told (so_far (entries ++ z)))
-          (sym (append-nil (heard_from p.offset moment piece))) front));
+      (sym (append-nil (heard_from p.offset moment piece))) front));
 }
   where
     by_how : (entries : List Entry) (told : List Known) → (was.offset ≡ at) ⊎ (told ≡ so_far entries) →

@@ -76,8 +76,10 @@ pub rise-rest : (left : ℕ) (bytes : List ℕ) (at : ℕ) (last : Token) (low :
     TokensRise low (tokens at last (rest_parts left bytes))
 rise-rest zero [] at last low le = (omega arith, tt)
 rise-rest zero (h ∷ []) at last low le = (omega arith, tt)
-rise-rest zero (h ∷ l ∷ bytes) at last low le = (omega arith,
-    (omega arith, rise-rest (256 * h + l) bytes (at + 2) (Begins at (256 * h + l)) (7 * at + 12) (omega arith)))
+rise-rest zero (h ∷ l ∷ bytes) at last low le = (
+  omega arith,
+  (omega arith, rise-rest (256 * h + l) bytes (at + 2) (Begins at (256 * h + l)) (7 * at + 12) (omega arith)),
+)
 rise-rest (suc left) [] at last low le = tt
 rise-rest (suc left) (b ∷ bytes) at last low le = rise-byte last at b low (tokens (at + 1) (byte_token at last b)
     (rest_parts left bytes)) le (λ low' h. rise-rest left bytes (at + 1) (byte_token at last b) low' h)
@@ -115,8 +117,12 @@ split-byte g x = by (is_realtime x.byte) (rising-group g x)
     by : (rt : Bool) → Rising (7 * x.at + 1) (7 * x.at + 5) (group_news g x) → Split (7 * x.at + 1) (7 * x.at + 5)
         (if rt then [] else (if is_data x.byte then data_news g.status g.data_bytes x else ended g x ++ status_told x))
         (if rt then realtime_known x ∷ [] else [])
-    by true h = record { up = 7 * x.at + 1; first = omega arith; second =
-        (record { key_is = omega arith; small = omega arith }, omega arith) }
+    by true h = record {
+      up = 7 * x.at + 1;
+      first = omega arith;
+      second =
+          (record { key_is = omega arith; small = omega arith }, omega arith);
+    }
     by false h = record { up = 7 * x.at + 5; first = named (is_data x.byte); second = omega arith }
       where
         named : (da : Bool) → Rising (7 * x.at + 1) (7 * x.at + 5) (if da then data_news g.status g.data_bytes x else
@@ -165,30 +171,76 @@ Rising-lower low lower high (k ∷ ks) le r = (record { key_is = omega (arith, r
 
 pub steps : (low : ℕ) (before : List Token) (t : Token) (ts : List Token) → TokensRise low (t ∷ ts) →
     Steps low before t ts
-steps low before (Begins at len) ts r = record { mid = 7 * at + 12; up = 7 * at + 12; high = 7 * at + 12; notes =
-    by (len == 0); of_groups = omega arith; realtimes = omega arith; rest = r.1 }
+steps low before (Begins at len) ts r = record {
+  mid = 7 * at + 12;
+  up = 7 * at + 12;
+  high = 7 * at + 12;
+  notes =
+      by (len == 0);
+  of_groups = omega arith;
+  realtimes = omega arith;
+  rest = r.1;
+}
   where
     by : (c : Bool) → Rising low (7 * at + 12) (if c then noted 4 (clock before).moment (at + 1) at EmptyPacket ∷
         [] else [])
     by true = (record { key_is = omega (arith, r.0); small = omega arith }, omega arith)
     by false = omega (arith, r.0)
-steps low before (Header upper) ts r = record { mid = low; up = low; high = low; notes = omega arith; of_groups =
-    omega arith; realtimes = omega arith; rest = r }
-steps low before (Unheaded at) ts r = record { mid = 7 * at + 5; up = 7 * at + 5; high = 7 * at + 5; notes =
-    (record { key_is = omega (arith, r.0); small = omega arith }, omega arith); of_groups = omega arith; realtimes =
-    omega arith; rest = r.1 }
-steps low before Skipped ts r = record { mid = low; up = low; high = low; notes = omega arith; of_groups = omega arith;
-    realtimes = omega arith; rest = r }
-steps low before (Stamp at l) ts r = record { mid = low; up = low; high = low; notes = omega arith; of_groups =
-    omega arith; realtimes = omega arith; rest = r }
+steps low before (Header upper) ts r = record {
+  mid = low;
+  up = low;
+  high = low;
+  notes = omega arith;
+  of_groups =
+      omega arith;
+  realtimes = omega arith;
+  rest = r;
+}
+steps low before (Unheaded at) ts r = record {
+  mid = 7 * at + 5;
+  up = 7 * at + 5;
+  high = 7 * at + 5;
+  notes =
+      (record { key_is = omega (arith, r.0); small = omega arith }, omega arith);
+  of_groups = omega arith;
+  realtimes =
+      omega arith;
+  rest = r.1;
+}
+steps low before Skipped ts r = record {
+  mid = low;
+  up = low;
+  high = low;
+  notes = omega arith;
+  of_groups = omega arith;
+  realtimes = omega arith;
+  rest = r;
+}
+steps low before (Stamp at l) ts r = record {
+  mid = low;
+  up = low;
+  high = low;
+  notes = omega arith;
+  of_groups =
+      omega arith;
+  realtimes = omega arith;
+  rest = r;
+}
 steps low before (Status at b) ts r =
     let s : Split (7 * at + 1) (7 * at + 5) (groups_at before (Status at b)) (realtimes_at before (Status at b)) =
-        split-byte (last_of (payload before)) (spot before at b) in
-    record { mid = 7 * at + 1; up = s.up; high = 7 * at + 5; notes = omega (arith, r.0); of_groups = s.first;
-        realtimes = s.second; rest = r.1 }
+    split-byte (last_of (payload before)) (spot before at b) in
+    record {
+      mid = 7 * at + 1;
+      up = s.up;
+      high = 7 * at + 5;
+      notes = omega (arith, r.0);
+      of_groups = s.first;
+      realtimes = s.second;
+      rest = r.1;
+    }
 steps low before (Data at b) ts r =
     let s : Split (7 * at + 1) (7 * at + 5) (groups_at before (Data at b)) (realtimes_at before (Data at b)) =
-        split-byte (last_of (payload before)) (spot before at b) in
+    split-byte (last_of (payload before)) (spot before at b) in
     record {
       mid = 7 * at + 0 + 1;
       up = s.up;
@@ -264,7 +316,7 @@ ordered (t ∷ ts) before low r =
     let q : List Known = realtimes_at before t in
     let more : List Known = news_from (t ∷ before) ts in
     pull_three low s.mid s.up s.high u n q (all_at groups_at (t ∷ before) ts) (all_at realtimes_at (t ∷ before) ts)
-        (unit_notes (t ∷ before) ts) s.notes s.of_groups s.realtimes l.of_groups l.realtimes l.notes
+    (unit_notes (t ∷ before) ts) s.notes s.of_groups s.realtimes l.of_groups l.realtimes l.notes
     ∙ ap (λ z. u ++ (n ++ (q ++ z))) (ordered ts (t ∷ before) s.high s.rest)
     ∙ ap (λ z. u ++ z) (sym (append_assoc n q more) ∙ ap (λ z. z ++ more) (sym (byte-two before t)))
     ∙ sym (append_assoc u (byte_news before t) more)

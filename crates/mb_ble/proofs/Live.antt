@@ -40,7 +40,7 @@ some_content : (y : Spelled) (before : List Spelled) → is_abort y.mark ≡ fal
 some_content y before e =
     let long : 0 < length (spelling before y) = some_spelled _ y.moment y.mark e in
     let sum : length (content before ++ spelling before y) ≡ length (content before) + length (spelling before y) =
-        grind (arith, length-append) in
+    grind (arith, length-append) in
     grind (arith, nat_tests)
 
 ends_same : (n : ℕ) (before : List Spelled) (x : Spelled) → NoAbort before → ends_in (packet_of n before) x ≡
@@ -64,9 +64,9 @@ at_abort n before moment AbortSign e = (refl, refl)
 -- a mark that is spelled
 pub at_spelled : (n : ℕ) (before : List Spelled) (moment : ℕ) (mark : Sign) → is_abort mark ≡ false →
     (under_way_at n before (At moment mark) ≡ (if ends n before (record { moment = moment; mark = mark }) then
-        record { moment = moment; mark = mark } ∷ [] else record { moment = moment; mark = mark } ∷ before))
+    record { moment = moment; mark = mark } ∷ [] else record { moment = moment; mark = mark } ∷ before))
     × (given_at n before (At moment mark) ≡ (if ends n before (record { moment = moment; mark = mark }) then
-        flushed before else []))
+    flushed before else []))
 at_spelled n before moment (ShortSign s d1 d2) e = (refl, refl)
 at_spelled n before moment (RtSign r) e = (refl, refl)
 at_spelled n before moment OpenSign e = (refl, refl)
@@ -107,16 +107,18 @@ pub live-push : (n : ℕ) (before : List Spelled) (puts : List Put) (put : Put) 
 live-push n before [] put = append-nil (given_at n before put)
 live-push n before (p ∷ puts) put =
     ap (λ z. given_at n before p ++ z) (live-push n (under_way_at n before p) puts put) ∙
-        sym (append_assoc (given_at n before p) (live_from n (under_way_at n before p) puts)
-        (given_at n (under_way_from n (under_way_at n before p) puts) put))
+    sym (append_assoc (given_at n before p) (live_from n (under_way_at n before p) puts)
+    (given_at n (under_way_from n (under_way_at n before p) puts) put))
 
 -- a mark in a writer and in its packet
 mark_in : (n : ℕ) (before : List Spelled) (moment : ℕ) (mark : Sign) (b : Bool) → is_abort mark ≡ b → NoAbort before →
     let x : Spelled = record { moment = moment; mark = mark } in
     (after_mark (packet_of n before) x ≡ packet_of n (under_way_at n before (At moment mark))) ×
-        (given_in (packet_of n before) x ≡ given_at n before (At moment mark))
-mark_in n before moment mark true e none = (rw e (ap (packet_of n) (sym (at_abort n before moment mark e).0)),
-    rw e (sym (at_abort n before moment mark e).1))
+    (given_in (packet_of n before) x ≡ given_at n before (At moment mark))
+mark_in n before moment mark true e none = (
+  rw e (ap (packet_of n) (sym (at_abort n before moment mark e).0)),
+  rw e (sym (at_abort n before moment mark e).1),
+)
 mark_in n before moment mark false e none =
     let x : Spelled = record { moment = moment; mark = mark } in
     let same : ends_in (packet_of n before) x ≡ ends n before x = ends_same n before x none in (
@@ -136,15 +138,15 @@ first size = record { packet = refl }
 pub marked : (old : OpenPacket) (puts : List Put) (moment : ℕ) (mark : Sign) → Holds old puts → let x : Spelled =
     record { moment = moment; mark = mark } in
     Holds (after_mark old x) (puts ++ At moment mark ∷ []) × (live old.size (puts ++ At moment mark ∷ []) ≡
-        live old.size puts ++ given_in old x)
+    live old.size puts ++ given_in old x)
 marked old puts moment mark stands =
     let n : ℕ = old.size in
     let before : List Spelled = under_way n puts in
     let x : Spelled = record { moment = moment; mark = mark } in
     let step = mark_in n before moment mark (is_abort mark) refl (NoAbort-from n [] puts tt) in
     let state : after_mark old x ≡ packet_of n (under_way n (puts ++ At moment mark ∷ [])) =
-        ap (λ w. after_mark w x) stands.packet ∙ step.0 ∙ ap (packet_of n)
-        (sym (under_way-push n [] puts (At moment mark))) in
+    ap (λ w. after_mark w x) stands.packet ∙ step.0 ∙ ap (packet_of n)
+    (sym (under_way-push n [] puts (At moment mark))) in
     let size : (after_mark old x).size ≡ n = ap (λ (w : OpenPacket). w.size) state in (
       record { packet = state ∙ ap (λ k. packet_of k (under_way k (puts ++ At moment mark ∷ []))) (sym size) },
       live-push n [] puts (At moment mark) ∙ ap (λ z. live n puts ++ z) (sym (ap (λ w. given_in w x) stands.packet ∙
@@ -153,7 +155,7 @@ marked old puts moment mark stands =
 
 pub flush : (old : OpenPacket) (puts : List Put) → Holds old puts →
     Holds (nothing old.size) (puts ++ Flush ∷ []) × (live old.size (puts ++ Flush ∷ []) ≡ live old.size puts ++
-        flushed_in old)
+    flushed_in old)
 flush old puts stands =
     let n : ℕ = old.size in (
       record { packet = ap (packet_of n) (sym (under_way-push n [] puts Flush)) },
@@ -179,18 +181,18 @@ bytes-end n (y ∷ before) = append-nil (packet_bytes (reverse (y ∷ before))) 
 of_runs-front : (n : ℕ) (before : List Spelled) (x : Spelled) (run : List Spelled) (rest : List (List Spelled))
     (b : Bool) → ends n before x ≡ b →
     of_runs n before ((x ∷ run) ∷ rest) ≡ (if b then flushed before else []) ++
-        of_runs n (if b then x ∷ [] else x ∷ before) (run ∷ rest)
+    of_runs n (if b then x ∷ [] else x ∷ before) (run ∷ rest)
 of_runs-front n before x run rest false e =
     ap (λ b. bytes_of (if b then reverse before ∷ packets_from n (x ∷ []) run else packets_from n (x ∷ before) run) ++
-        flat_map (λ r. bytes_of (packets n r)) rest) e
+    flat_map (λ r. bytes_of (packets n r)) rest) e
 of_runs-front n [] x run rest true e = absurd (true≢false (sym e))
 of_runs-front n (y ∷ before) x run rest true e =
     let others : List ℕ = flat_map (λ r. bytes_of (packets n r)) rest in
     let more : List ℕ = bytes_of (packets_from n (x ∷ []) run) in
     ap (λ b. bytes_of (if b then reverse (y ∷ before) ∷ packets_from n (x ∷ []) run else packets_from n (x ∷ y ∷ before)
-        run) ++ others) e
+    run) ++ others) e
     ∙ append_assoc (packet_bytes (reverse (y ∷ before))) more others ∙ ap (λ p. ended p ++ (more ++ others))
-        (reverse-reverse (y ∷ before))
+    (reverse-reverse (y ∷ before))
 
 runs-abort : (moment : ℕ) (mark : Sign) (puts : List Put) → is_abort mark ≡ true → runs (At moment mark ∷ puts) ≡
     runs puts
@@ -228,7 +230,7 @@ runs-some (At moment mark ∷ puts) e = by_mark (is_abort mark) refl (runs-some 
 
 of_runs-in_front : (n : ℕ) (before : List Spelled) (x : Spelled) (rs : List (List Spelled)) → (rs ≡ [] → ⊥) →
     of_runs n before (in_front x rs) ≡ (if ends n before x then flushed before else []) ++
-        of_runs n (if ends n before x then x ∷ [] else x ∷ before) rs
+    of_runs n (if ends n before x then x ∷ [] else x ∷ before) rs
 of_runs-in_front n before x [] some = absurd (some refl)
 of_runs-in_front n before x (run ∷ rest) some = of_runs-front n before x run rest (ends n before x) refl
 
@@ -242,11 +244,11 @@ join a b c d e = ap (λ z. a ++ z) e ∙ sym (append_assoc a b c)
 at_mark : (n : ℕ) (before : List Spelled) (moment : ℕ) (mark : Sign) (puts : List Put) (b : Bool) → is_abort mark ≡ b →
     ((p : List Spelled) → of_runs n p (runs puts) ≡ live_from n p puts ++ flushed (under_way_from n p puts)) →
     of_runs n before (runs (At moment mark ∷ puts)) ≡ live_from n before (At moment mark ∷ puts) ++
-        flushed (under_way_from n before (At moment mark ∷ puts))
+    flushed (under_way_from n before (At moment mark ∷ puts))
 at_mark n before moment mark puts true e ih =
     ap (of_runs n before) (runs-abort moment mark puts e) ∙ ih before
     ∙ sym (ap (λ (z : List ℕ × List Spelled). (z.0 ++ live_from n z.1 puts) ++ flushed (under_way_from n z.1 puts))
-        (pair (at_abort n before moment mark e).1 (at_abort n before moment mark e).0))
+    (pair (at_abort n before moment mark e).1 (at_abort n before moment mark e).0))
 at_mark n before moment mark puts false e ih =
     let x : Spelled = record { moment = moment; mark = mark } in
     let given : List ℕ = if ends n before x then flushed before else [] in
@@ -254,7 +256,7 @@ at_mark n before moment mark puts false e ih =
     ap (of_runs n before) (runs-spelled moment mark puts e) ∙ of_runs-in_front n before x (runs puts) (runs-some puts)
     ∙ join given (live_from n next puts) (flushed (under_way_from n next puts)) _ (ih next)
     ∙ sym (ap (λ (z : List ℕ × List Spelled). (z.0 ++ live_from n z.1 puts) ++ flushed (under_way_from n z.1 puts))
-        (pair (at_spelled n before moment mark e).1 (at_spelled n before moment mark e).0))
+    (pair (at_spelled n before moment mark e).1 (at_spelled n before moment mark e).0))
 
 of_runs-all : (n : ℕ) (puts : List Put) (before : List Spelled) → of_runs n before (runs puts) ≡ live_from n before
     puts ++ flushed (under_way_from n before puts)
@@ -262,7 +264,7 @@ of_runs-all n [] before = append-nil (bytes_of (packets_from n before [])) ∙ b
 of_runs-all n (Flush ∷ puts) before =
     ap (λ z. z ++ flat_map (λ r. bytes_of (packets n r)) (runs puts)) (bytes-end n before)
     ∙ join (flushed before) (live_from n [] puts) (flushed (under_way_from n [] puts)) _ (of_runs-nil n (runs puts) ∙
-        of_runs-all n puts [])
+    of_runs-all n puts [])
 of_runs-all n (At moment mark ∷ puts) before = at_mark n before moment mark puts (is_abort mark) refl
     (of_runs-all n puts)
 
@@ -273,7 +275,7 @@ finish old puts stands =
     let n : ℕ = old.size in
     of_runs-nil n (runs puts) ∙ of_runs-all n puts []
     ∙ ap (λ z. live n puts ++ z) (sym (ap flushed_in stands.packet ∙ flushed_same n (under_way n puts)
-        (NoAbort-from n [] puts tt)))
+    (NoAbort-from n [] puts tt)))
 
 -- several marks of one moment
 puts-more : (puts : List Put) (moment : ℕ) (m : Sign) (ms : List Sign) → (puts ++ At moment m ∷ []) ++
@@ -295,9 +297,12 @@ size_all w moment (m ∷ ms) = size_all (after_mark w (spelled_at moment m)) mom
 
 pub all_hold : (old : OpenPacket) (puts : List Put) (moment : ℕ) (ms : List Sign) → Holds old puts →
     Holds (after_all old moment ms) (puts ++ puts_at moment ms) × ((after_all old moment ms).size ≡ old.size) ×
-        (live old.size (puts ++ puts_at moment ms) ≡ live old.size puts ++ given_all old moment ms)
-all_hold old puts moment [] h = (subst (Holds old) (sym (append-nil puts)) h, refl,
-    ap (live old.size) (append-nil puts) ∙ sym (append-nil (live old.size puts)))
+    (live old.size (puts ++ puts_at moment ms) ≡ live old.size puts ++ given_all old moment ms)
+all_hold old puts moment [] h = (
+  subst (Holds old) (sym (append-nil puts)) h,
+  refl,
+  ap (live old.size) (append-nil puts) ∙ sym (append-nil (live old.size puts)),
+)
 all_hold old puts moment (m ∷ ms) h =
     let one = marked old puts moment m h in
     let next : OpenPacket = after_mark old (spelled_at moment m) in
@@ -352,7 +357,7 @@ goes_on-first n before x run e = ap (λ b. if b then reverse before ∷ packets_
 live_runs-front : (n : ℕ) (before : List Spelled) (x : Spelled) (run : List Spelled) (rest : List (List Spelled))
     (b : Bool) → ends n before x ≡ b →
     live_runs n before ((x ∷ run) ∷ rest) ≡ (if b then flushed before else []) ++
-        live_runs n (if b then x ∷ [] else x ∷ before) (run ∷ rest)
+    live_runs n (if b then x ∷ [] else x ∷ before) (run ∷ rest)
 live_runs-front n before x run [] false e = ap (λ ps. bytes_of (but_last ps)) (goes_on-first n before x run e)
 live_runs-front n before x run (next ∷ rest) false e = ap (λ ps. bytes_of ps ++ live_of n (next ∷ rest))
     (goes_on-first n before x run e)
@@ -365,11 +370,11 @@ live_runs-front n (y ∷ before) x run (next ∷ rest) true e =
     let more : List ℕ = bytes_of (packets_from n (x ∷ []) run) in
     ap (λ ps. bytes_of ps ++ live_of n (next ∷ rest)) (ended-first n y before x run e)
     ∙ append_assoc (packet_bytes (reverse (y ∷ before))) more (live_of n (next ∷ rest)) ∙
-        ap (λ p. ended p ++ (more ++ live_of n (next ∷ rest))) (reverse-reverse (y ∷ before))
+    ap (λ p. ended p ++ (more ++ live_of n (next ∷ rest))) (reverse-reverse (y ∷ before))
 
 live_runs-in_front : (n : ℕ) (before : List Spelled) (x : Spelled) (rs : List (List Spelled)) → (rs ≡ [] → ⊥) →
     live_runs n before (in_front x rs) ≡ (if ends n before x then flushed before else []) ++
-        live_runs n (if ends n before x then x ∷ [] else x ∷ before) rs
+    live_runs n (if ends n before x then x ∷ [] else x ∷ before) rs
 live_runs-in_front n before x [] some = absurd (some refl)
 live_runs-in_front n before x (run ∷ rest) some = live_runs-front n before x run rest (ends n before x) refl
 
@@ -390,16 +395,16 @@ live-mark : (n : ℕ) (before : List Spelled) (moment : ℕ) (mark : Sign) (puts
 live-mark n before moment mark puts true e ih =
     ap (live_runs n before) (runs-abort moment mark puts e) ∙ ih before
     ∙ sym (ap (λ (z : List ℕ × List Spelled). z.0 ++ live_from n z.1 puts) (pair (at_abort n before moment mark e).1
-        (at_abort n before moment mark e).0))
+    (at_abort n before moment mark e).0))
 live-mark n before moment mark puts false e ih =
     let x : Spelled = record { moment = moment; mark = mark } in
     let given : List ℕ = if ends n before x then flushed before else [] in
     let next : List Spelled = if ends n before x then x ∷ [] else x ∷ before in
     ap (live_runs n before) (runs-spelled moment mark puts e) ∙ live_runs-in_front n before x (runs puts)
-        (runs-some puts)
+    (runs-some puts)
     ∙ ap (λ z. given ++ z) (ih next)
     ∙ sym (ap (λ (z : List ℕ × List Spelled). z.0 ++ live_from n z.1 puts) (pair (at_spelled n before moment mark e).1
-        (at_spelled n before moment mark e).0))
+    (at_spelled n before moment mark e).0))
 
 live-all : (n : ℕ) (puts : List Put) (before : List Spelled) → live_runs n before (runs puts) ≡ live_from n before puts
 live-all n [] before = live-nothing n before

@@ -149,8 +149,12 @@ parts-few : (xs : List FramePart) (p : Packeted) → Good p.reader → GoodRuns 
 parts-few [] p g h = omega arith
 parts-few (x ∷ xs) p g h =
     let s : KeepsTo p.reader (part_after p x) (part_tells p x) (count x) = keeps-part p x g h in
-    omega (arith, s.few, length-append (part_tells p x) (read_parts (part_after p x) xs),
-        parts-few xs (part_after p x) s.good s.runs)
+    omega (
+      arith,
+      s.few,
+      length-append (part_tells p x) (read_parts (part_after p x) xs),
+      parts-few xs (part_after p x) s.good s.runs,
+    )
 
 rest-count : (left : ℕ) (bytes : List ℕ) → count_all (rest_parts left bytes) ≤ length bytes
 rest-count zero [] = omega arith

@@ -55,14 +55,16 @@ pub run_law : (was mid now : Content) (input handed left final : List ℕ) (len 
     0 < length input → len ≤ length input → take len input ≡ data_front input → handed ≡ take len input →
     used ≡ len - length left → final ≡ drop used input →
     Hands was.din mid.din was.offset handed left seen → mid ≡ record was { din = mid.din } → now ≡ advanced mid used →
-        is_heady was.head ≡ false → ((b : ℕ) (bs : List ℕ) → input ≡ b ∷ bs → nat_lt b 128 ≡ true) →
+    is_heady was.head ≡ false → ((b : ℕ) (bs : List ℕ) → input ≡ b ∷ bs → nat_lt b 128 ≡ true) →
     ((at b : ℕ) (bs : List ℕ) → input ≡ b ∷ bs → was.head ≡ head.Stamped at → nat_lt b 128 ≡ true →
-        MayRun was.din true) → HasOpen was.din true → Reads was now input final seen
+    MayRun was.din true) → HasOpen was.din true → Reads was now input final seen
 run_law was mid now [] handed left final len used seen pos short front_is piece u fin hands is moves a lows lone
     open_law = absurd (omega (arith, pos))
 run_law was mid now (b ∷ bs) handed left final len used seen pos short front_is piece u fin hands is moves a lows lone
-    open_law = record { reads = λ before told room following holds fits front. by before told room following holds fits
-    front }
+    open_law = record {
+      reads = λ before told room following holds fits front. by before told room following holds fits
+          front;
+    }
   where
     low : nat_lt b 128 ≡ true
     low = lows b bs refl
@@ -139,8 +141,11 @@ run_law was mid now (b ∷ bs) handed left final len used seen pos short front_i
 
         g : DinGoes hands.placed mid.din m handed left seen es (so_far es) (heard_from o m handed)
         g = subst (λ n. DinGoes hands.placed mid.din m handed left seen es (so_far es) (heard_from n m handed))
-            hands.there (hands.next m es (so_far es) placed ((stream.news_from (last_of es)
-            (heard_from hands.placed.offset m handed), grows)))
+            hands.there (hands.next m es (so_far es) placed ((
+              stream.news_from (last_of es)
+                  (heard_from hands.placed.offset m handed),
+              grows,
+            )))
 
         with_taken : (T : List ℕ) → handed ≡ T ++ left → RunDined mid.din T seen es o m →
             Read was now (b ∷ bs) final seen before told (suc room) following
@@ -150,9 +155,9 @@ run_law was mid now (b ∷ bs) handed left final len used seen pos short front_i
             let now_is : now ≡ record was { din = mid.din } = moves ∙ advanced-zero mid used none ∙ is in
             let quiet : seen ≡ [] = sym d.answer_is ∙ ap (map (λ (k : Known). k.told)) d.fresh_is in
             subst (λ z. Read was now (b ∷ bs) z seen before told (suc room) following) (sym fin_is)
-                (subst (λ c. Read was c (b ∷ bs) (b ∷ bs) seen before told (suc room) following) (sym now_is)
-                (subst (λ ts. Read was (record was { din = mid.din }) (b ∷ bs) (b ∷ bs) ts before told (suc room)
-                following) (sym quiet)
+            (subst (λ c. Read was c (b ∷ bs) (b ∷ bs) seen before told (suc room) following) (sym now_is)
+            (subst (λ ts. Read was (record was { din = mid.din }) (b ∷ bs) (b ∷ bs) ts before told (suc room)
+            following) (sym quiet)
             (read-none was (record was { din = mid.din }) (b ∷ bs) [] before told (suc room) following [] refl
             (record {
               clock_is = holds.clock_is;
@@ -171,7 +176,7 @@ run_law was mid now (b ∷ bs) handed left final len used seen pos short front_i
               rested = λ e. refl;
             })
             refl (subst (λ z. IsFront z (news_from before (tokens o (last before) (rest_parts (suc room) ((b ∷ bs) ++
-                following))))) (sym (append-nil told)) front))))
+            following))))) (sym (append-nil told)) front))))
           where
             zero-off : mid.din.offset ≡ o + length {A = ℕ} [] → mid.din.offset ≤ o
             zero-off e = omega (arith, e)
@@ -181,20 +186,20 @@ run_law was mid now (b ∷ bs) handed left final len used seen pos short front_i
             let f' : handed ≡ (b ∷ T) ++ left = f ∙ ap (λ z. z ∷ (T ++ left)) y_is in
             let d' : RunDined mid.din (b ∷ T) seen es o m = subst (λ z. RunDined mid.din (z ∷ T) seen es o m) y_is d in
             let n : used ≡ length (b ∷ T) = counts used len (length handed) (length (b ∷ T)) (length left) u size
-                (ap length f' ∙ length-append (b ∷ T) left) in
+            (ap length f' ∙ length-append (b ∷ T) left) in
             let whole : b ∷ bs ≡ (b ∷ T) ++ (left ++ beyond) = cut ∙ ap (λ z. z ++ beyond) f' ∙
-                append_assoc (b ∷ T) left beyond in
+            append_assoc (b ∷ T) left beyond in
             let final_is : final ≡ left ++ beyond = fin ∙ ap₂ drop n whole ∙ drop-front (b ∷ T) (left ++ beyond) in
             let now_is : now ≡ record was { offset = o + length (b ∷ T); head = head.Inside; din = mid.din } =
             moves ∙ advanced-some mid used (omega (arith, n)) ∙ ap₂ stepped is n in
             let lows2 : Low (b ∷ T) = low-front (b ∷ T) left (subst Low f' handed_low) in
             let op : is_sysex (last_of es) ≡ true = open_law es stands in
             subst (λ z. Read was now (b ∷ bs) z seen before told (suc room) following) (sym final_is)
-                (subst (λ z. Read was now z (left ++ beyond) seen before told (suc room) following) (sym whole)
+            (subst (λ z. Read was now z (left ++ beyond) seen before told (suc room) following) (sym whole)
             (run_taken was now b T (left ++ beyond) seen before told (suc room) following holds.stamp mid.din holds low
-                lows2.1 r0.kind (r0.note ∙ sym told_is) op (fits_in (length (b ∷ bs)) (length (b ∷ T))
-                (length (left ++ beyond)) (suc room) (ap length whole ∙ length-append (b ∷ T) (left ++ beyond)) fits) d'
-                now_is))
+            lows2.1 r0.kind (r0.note ∙ sym told_is) op (fits_in (length (b ∷ bs)) (length (b ∷ T))
+            (length (left ++ beyond)) (suc room) (ap length whole ∙ length-append (b ∷ T) (left ++ beyond)) fits) d'
+            now_is))
           where
             heads : (a c : ℕ) (xs ys : List ℕ) → a ∷ xs ≡ c ∷ ys → a ≡ c
             heads a c xs ys e = cc
@@ -281,10 +286,10 @@ stamp-advanced mid used = by (used == 0)
 
 pub run_falls : (r : Option Seen) (was mid now : Content) (input handed left final taken : List ℕ) (len used : ℕ) →
     OnSome r (2 * length left + owed mid.din < 2 * length handed + owed was.din) → IfNone r (left ≡ []) →
-        mid ≡ record was { din = mid.din } → now ≡ advanced mid used → handed ≡ taken ++ left →
+    mid ≡ record was { din = mid.din } → now ≡ advanced mid used → handed ≡ taken ++ left →
     0 < length input → len ≤ length input → take len input ≡ data_front input → handed ≡ take len input →
-        ((b : ℕ) (bs : List ℕ) → input ≡ b ∷ bs → nat_lt b 128 ≡ true) → used ≡ len - length left →
-        final ≡ drop used input →
+    ((b : ℕ) (bs : List ℕ) → input ≡ b ∷ bs → nat_lt b 128 ≡ true) → used ≡ len - length left →
+    final ≡ drop used input →
     2 * length final + content_owed now < 2 * length input + content_owed was
 run_falls r was mid now input handed left final taken len used progress none is moves cut pos short e piece lows u fin =
     by r progress none
@@ -301,7 +306,7 @@ run_falls r was mid now input handed left final taken len used progress none is 
     now_owed : content_owed now ≤ owed mid.din + stamp_owed was.head
     now_owed =
         let a : content_owed now ≤ content_owed mid = subst (λ (c : Content). content_owed c ≤ content_owed mid)
-            (sym moves) (stamp-advanced mid used) in
+        (sym moves) (stamp-advanced mid used) in
         let b : stamp_owed mid.head ≡ stamp_owed was.head = ap (λ (c : Content). stamp_owed c.head) is in
         omega (arith, a, b)
 

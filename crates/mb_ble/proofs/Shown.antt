@@ -21,13 +21,20 @@ not-long : (n c s : ℕ) (rest : Bool) → (nat_lt n (1 + c + s) || rest) ≡ fa
 not-long n c s rest e = grind (arith, nat_tests)
 
 fits-more : (n : ℕ) (before : List Spelled) (x : Spelled) → 5 ≤ n → ends n before x ≡ false → Fits n (x ∷ before)
-fits-more n [] x least e = omega (arith, least, short_spelling (Rattle.mb_ble.specs.Written.running_of []) x.moment
-    x.mark)
+fits-more n [] x least e = omega (
+  arith,
+  least,
+  short_spelling (Rattle.mb_ble.specs.Written.running_of []) x.moment
+      x.mark,
+)
 fits-more n (y ∷ before) x least e =
-    omega (arith, length-append (content (y ∷ before)) (spelling (y ∷ before) x),
-        not-long n (length (content (y ∷ before))) (length (spelling (y ∷ before) x)) (is_far (last_stamp (y ∷ before))
-        (stamp x) || Rattle.std.specs.Prelude.◌&&◌ (falls (last_stamp (y ∷ before)) (stamp x))
-        (has_fallen (y ∷ before))) e)
+    omega (
+      arith,
+      length-append (content (y ∷ before)) (spelling (y ∷ before) x),
+      not-long n (length (content (y ∷ before))) (length (spelling (y ∷ before) x)) (is_far (last_stamp (y ∷ before))
+          (stamp x) || Rattle.std.specs.Prelude.◌&&◌ (falls (last_stamp (y ∷ before)) (stamp x))
+          (has_fallen (y ∷ before))) e,
+    )
 
 -- done: what was written; cur: what the packet under way has
 record So (n : ℕ) (done cur : List Put) (before : List Spelled) : Type 0 where
@@ -59,8 +66,8 @@ so-goes_on n done cur before next p s g u f =
     record {
       live_is =
           ap (live n) same ∙ (live-push n [] (done ++ cur) p ∙
-              (ap (λ b. live n (done ++ cur) ++ given_at n b p) s.under ∙ (ap (λ z. live n (done ++ cur) ++ z) g ∙
-              (append-nil (live n (done ++ cur)) ∙ s.live_is))));
+          (ap (λ b. live n (done ++ cur) ++ given_at n b p) s.under ∙ (ap (λ z. live n (done ++ cur) ++ z) g ∙
+          (append-nil (live n (done ++ cur)) ∙ s.live_is))));
       under = ap (under_way n) same ∙ (under_way-push n [] (done ++ cur) p ∙ (ap (λ b. under_way_at n b p) s.under ∙
           u));
       own = under_way-push n [] cur p ∙ (ap (λ b. under_way_at n b p) s.own ∙ u);
@@ -77,8 +84,8 @@ so-ends n done cur before x p s g u g0 u0 f =
     record {
       live_is =
           live-push n [] (done ++ cur) p ∙ (ap (λ b. live n (done ++ cur) ++ given_at n b p) s.under ∙
-              (ap (λ z. live n (done ++ cur) ++ z) (g ∙ ap flushed (sym s.under)) ∙
-              sym (written-live n (done ++ cur))));
+          (ap (λ z. live n (done ++ cur) ++ z) (g ∙ ap flushed (sym s.under)) ∙
+          sym (written-live n (done ++ cur))));
       under = under_way-push n [] (done ++ cur) p ∙ (ap (λ b. under_way_at n b p) s.under ∙ u);
       own = u0;
       none = append-nil (given_at n [] p) ∙ g0;
@@ -123,8 +130,11 @@ split-step n done cur before (At moment mark) least s = by (is_abort mark) refl
     by false a false is =
         let z = at_spelled n before moment mark a in
         goes_on (record { moment = moment; mark = mark } ∷ before) (z.1 ∙ ap (λ c. if c then flushed before else []) is)
-            (z.0 ∙ ap (λ c. if c then record { moment = moment; mark = mark } ∷ [] else record { moment = moment; mark =
-            mark } ∷ before) is)
+        (z.0 ∙ ap (λ c. if c then record { moment = moment; mark = mark } ∷ [] else record {
+          moment = moment;
+          mark =
+              mark;
+        } ∷ before) is)
         (fits-more n before (record { moment = moment; mark = mark }) least is)
     by false a true is =
         let z = at_spelled n before moment mark a in
@@ -136,8 +146,10 @@ split-step n done cur before (At moment mark) least s = by (is_abort mark) refl
           all = refl;
           so = so-ends n done cur before (record { moment = moment; mark = mark }) (At moment mark) s (z.1 ∙
               ap (λ c. if c then flushed before else []) is)
-              (z.0 ∙ ap (λ c. if c then record { moment = moment; mark = mark } ∷ [] else record { moment = moment;
-                  mark = mark } ∷ before) is) w.1 w.0
+              (z.0 ∙ ap (λ c. if c then record { moment = moment; mark = mark } ∷ [] else record {
+                moment = moment;
+                mark = mark;
+              } ∷ before) is) w.1 w.0
               (fits-more n [] (record { moment = moment; mark = mark }) least refl);
         }
 
@@ -146,22 +158,31 @@ split-from n start [] least s = subst (Split n) (sym (append-nil start)) s
 split-from n start (p ∷ puts) least s =
     subst (Split n) (append_assoc start (p ∷ []) puts)
     (split-from n (start ++ p ∷ []) puts least (subst (λ z. Split n (z ++ p ∷ [])) (sym s.all)
-        (split-step n s.done s.cur s.before p least s.so)))
+    (split-step n s.done s.cur s.before p least s.so)))
 
 split_of : (n : ℕ) (puts : List Put) → 5 ≤ n → Split n puts
-split_of n puts least = split-from n [] puts least (record { done = []; cur = []; before = []; all = refl; so =
-    so-flush n [] least refl })
+split_of n puts least = split-from n [] puts least (record {
+  done = [];
+  cur = [];
+  before = [];
+  all = refl;
+  so =
+      so-flush n [] least refl;
+})
 
 one_packet : (n : ℕ) (before : List Spelled) → Fits n before → IsOnePacket n (flushed before)
 one_packet n [] f = record { content = []; fits = omega (arith, f); is = inl refl }
-one_packet n (x ∷ before) f = record { content = header (x ∷ before) ∷ content (x ∷ before); fits = omega (arith, f);
-    is = inr refl }
+one_packet n (x ∷ before) f = record {
+  content = header (x ∷ before) ∷ content (x ∷ before);
+  fits = omega (arith, f);
+  is = inr refl;
+}
 
 pub held_back : (n : ℕ) (puts : List Put) → 5 ≤ n → HeldBack n puts
 held_back n puts least =
     let s = split_of n puts least in
     let held : ble_written n s.cur ≡ flushed s.before = written-live n s.cur ∙
-        (ap (λ z. z ++ flushed (under_way n s.cur)) s.so.none ∙ ap flushed s.so.own) in
+    (ap (λ z. z ++ flushed (under_way n s.cur)) s.so.none ∙ ap flushed s.so.own) in
     let live_is : ble_live n puts ≡ ble_written n s.done = live_law n puts ∙ (ap (live n) s.all ∙ s.so.live_is) in
     record {
       shown = s.done;

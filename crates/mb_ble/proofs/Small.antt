@@ -36,7 +36,7 @@ pub read-one : (was now : Content) (b : ℕ) (bs : List ℕ) (seen : List Told) 
     (room : ℕ) (following : List ℕ) (t : Token) (ahead fresh : List Known) →
     byte_token was.offset (last before) b ≡ t → now.offset ≡ was.offset + 1 → Holds now (t ∷ before) ahead →
     map part_of fresh ≡ map (λ t. record { moment = now.clock.moment; told = t }) seen → told ++
-        fresh ≡ token_news before t ++ ahead →
+    fresh ≡ token_news before t ++ ahead →
     IsFront ahead (news_from (t ∷ before) (tokens now.offset t (rest_parts room (bs ++ following)))) →
     Read was now (b ∷ bs) bs seen before told (suc room) following
 read-one was now b bs seen before told room following t ahead fresh e o holds seen_is told_is still =
@@ -47,8 +47,8 @@ read-one was now b bs seen before told room following t ahead fresh e o holds se
       front = refl;
       parts = λ more.
           ap (λ u. u ∷ tokens (was.offset + 1) u (rest_parts room more)) e ∙
-              ap (λ n. t ∷ tokens n t (rest_parts room more)) (sym o) ∙
-              ap (λ r. t ∷ tokens now.offset t (rest_parts r more)) (sym sub);
+          ap (λ n. t ∷ tokens n t (rest_parts room more)) (sym o) ∙
+          ap (λ r. t ∷ tokens now.offset t (rest_parts r more)) (sym sub);
       ahead = ahead;
       holds = holds;
       fresh = fresh;
@@ -62,9 +62,9 @@ read-one was now b bs seen before told room following t ahead fresh e o holds se
 pub read-none : (was now : Content) (input : List ℕ) (seen : List Told) (before : List Token) (told : List Known)
     (room : ℕ) (following : List ℕ) (fresh : List Known) →
     now.offset ≡ was.offset → Holds now before (told ++ fresh) → map part_of fresh ≡ map (λ t.
-        record { moment = now.clock.moment; told = t }) seen →
+    record { moment = now.clock.moment; told = t }) seen →
     IsFront (told ++ fresh) (news_from before (tokens was.offset (last before) (rest_parts room (input ++ following))))
-        →
+    →
     Read was now input input seen before told room following
 read-none was now input seen before told room following fresh o holds seen_is still =
     let sub : room - length {A = ℕ} [] ≡ room = omega arith in
@@ -106,8 +106,8 @@ pub holds-quiet : (was now : Content) (t : Token) (before : List Token) (told : 
     (h : Holds was before told) → h.early ≡ [] → payload (t ∷ before) ≡ payload before → running (t ∷ before) ≡
     running before →
     now.clock ≡ clock (t ∷ before) → now.running ≡ was.running → now.din ≡ was.din → was.offset ≤ now.offset →
-        ((at b : ℕ) → byte_token at t b ≡ byte_token at (token_behind now.head) b) →
-        StampIs now.head now.offset (t ∷ before) [] → Holds now (t ∷ before) []
+    ((at b : ℕ) → byte_token at t b ≡ byte_token at (token_behind now.head) b) →
+    StampIs now.head now.offset (t ∷ before) [] → Holds now (t ∷ before) []
 holds-quiet was now t before told h none p q c r d le k s = record {
   clock_is = c;
   running_is = r ∙ h.running_is ∙ sym q;
@@ -152,10 +152,10 @@ head_reads head.Skip was b bs e a z before told room following holds =
     let none : told ≡ [] = no_told was before told holds s.0 early in
     let now : Content = record was { offset = was.offset + 1 } in
     read-one was now b bs [] before told room following Skipped [] [] (holds.kind was.offset b ∙
-        ap (λ h. byte_token was.offset (token_behind h) b) e) refl
+    ap (λ h. byte_token was.offset (token_behind h) b) e) refl
     (holds-quiet was now Skipped before told holds early refl refl holds.clock_is refl refl (omega arith) (λ at x.
-        ap (λ h. byte_token at (token_behind h) x) (sym e)) (subst (λ h. StampIs h (was.offset + 1) (Skipped ∷ before)
-        []) (sym e) (refl, λ low rank ka. refl))) refl (append-nil told ∙ none) (nothing _)
+    ap (λ h. byte_token at (token_behind h) x) (sym e)) (subst (λ h. StampIs h (was.offset + 1) (Skipped ∷ before)
+    []) (sym e) (refl, λ low rank ka. refl))) refl (append-nil told ∙ none) (nothing _)
 head_reads head.Header was b bs e a z before told room following holds = by (nat_lt b 128) (holds.kind was.offset b ∙
     ap (λ h. byte_token was.offset (token_behind h) b) e)
   where
@@ -168,40 +168,50 @@ head_reads head.Header was b bs e a z before told room following holds = by (nat
         no_told was before told holds s.0 early
 
     by : (c : Bool) → byte_token was.offset (last before) b ≡ (if c then Unheaded was.offset else Header (b % 64)) →
-        Read was (if c then record was { offset = was.offset + 1; head = head.Skip } else record was { offset =
-            was.offset + 1; head = head.Inside; clock = begun was.clock (b % 64) }) (b ∷ bs) bs
-            (if c then Notes was.offset BadHeader ∷ [] else []) before told (suc room) following
+        Read was (if c then record was { offset = was.offset + 1; head = head.Skip } else record was {
+          offset =
+              was.offset + 1;
+          head = head.Inside;
+          clock = begun was.clock (b % 64);
+        }) (b ∷ bs) bs
+        (if c then Notes was.offset BadHeader ∷ [] else []) before told (suc room) following
     by true k =
         let now : Content = record was { offset = was.offset + 1; head = head.Skip } in
         let note : Known = noted 4 (clock before).moment was.offset was.offset BadHeader in
         read-one was now b bs (Notes was.offset BadHeader ∷ []) before told room following (Unheaded was.offset) []
-            (note ∷ []) k refl
+        (note ∷ []) k refl
         (holds-quiet was now (Unheaded was.offset) before told holds early refl refl holds.clock_is refl refl
-            (omega arith) (λ at x. refl) (refl, λ low rank ka. refl))
-            (ap (λ c. record { moment = c.moment; told = Notes was.offset BadHeader } ∷ []) (sym holds.clock_is))
-            (ap (λ z. z ++ note ∷ []) none) (nothing _)
+        (omega arith) (λ at x. refl) (refl, λ low rank ka. refl))
+        (ap (λ c. record { moment = c.moment; told = Notes was.offset BadHeader } ∷ []) (sym holds.clock_is))
+        (ap (λ z. z ++ note ∷ []) none) (nothing _)
     by false k =
-        let now : Content = record was { offset = was.offset + 1; head = head.Inside; clock =
-            begun was.clock (b % 64) } in
+        let now : Content = record was {
+          offset = was.offset + 1;
+          head = head.Inside;
+          clock =
+              begun was.clock (b % 64);
+        } in
         read-one was now b bs [] before told room following (Header (b % 64)) [] [] k refl
         (holds-quiet was now (Header (b % 64)) before told holds early refl refl (ap (λ c. begun c (b % 64))
-            holds.clock_is) refl refl (omega arith) (λ at x. refl) (refl, λ low rank ka. refl)) refl (append-nil told ∙
-            none) (nothing _)
+        holds.clock_is) refl refl (omega arith) (λ at x. refl) (refl, λ low rank ka. refl)) refl (append-nil told ∙
+        none) (nothing _)
 
 -- in code: the piece's first byte
 pub reads-first : (was now : Content) (input left : List ℕ) (b : ℕ) (seen : List Told) → input ≡ b ∷ left →
     ((before : List Token) (told : List Known) (room : ℕ) (following : List ℕ) → Holds was before told →
     IsFront told (news_from before (tokens was.offset (last before) (rest_parts (suc room) (b ∷ (left ++ following)))))
-        → Read was now (b ∷ left) left seen before told (suc room) following) → Reads was now input left seen
-reads-first was now input left b seen e f = record { reads = λ before told room following holds fits front.
-    by before told room following holds (subst (λ z. length z ≤ room) e fits)
-    (subst (λ z. IsFront told (news_from before (tokens was.offset (last before) (rest_parts room (z ++ following))))) e
-    front) }
+    → Read was now (b ∷ left) left seen before told (suc room) following) → Reads was now input left seen
+reads-first was now input left b seen e f = record {
+  reads = λ before told room following holds fits front.
+      by before told room following holds (subst (λ z. length z ≤ room) e fits)
+      (subst (λ z. IsFront told (news_from before (tokens was.offset (last before) (rest_parts room (z ++ following))))) e
+      front);
+}
   where
     by : (before : List Token) (told : List Known) (room : ℕ) (following : List ℕ) → Holds was before told →
         length (b ∷ left) ≤ room →
         IsFront told (news_from before (tokens was.offset (last before) (rest_parts room ((b ∷ left) ++ following)))) →
-            Read was now input left seen before told room following
+        Read was now input left seen before told room following
     by before told zero following holds fits front = absurd (omega arith)
     by before told (suc room) following holds fits front = subst (λ z. Read was now z left seen before told (suc room)
         following) (sym e) (f before told room following holds front)
@@ -212,8 +222,8 @@ pub head_law : (was now : Content) (input left : List ℕ) (b : ℕ) (seen : Lis
 head_law was now input left b seen e a z n s = reads-first was now input left b seen e (λ before told room following
     holds front.
     subst (λ c. Read was c (b ∷ left) left seen before told (suc room) following) (sym n)
-        (subst (λ t. Read was (headed was b) (b ∷ left) left t before told (suc room) following) (sym s)
-        (head_reads was.head was b left refl a z before told room following holds)))
+    (subst (λ t. Read was (headed was b) (b ∷ left) left t before told (suc room) following) (sym s)
+    (head_reads was.head was b left refl a z before told room following holds)))
 
 -- a stamp
 pub stamp_law : (was now : Content) (input left : List ℕ) (b : ℕ) → input ≡ b ∷ left → was.head ≡ head.Inside →
@@ -221,7 +231,7 @@ pub stamp_law : (was now : Content) (input left : List ℕ) (b : ℕ) → input 
 stamp_law was now input left b e a high n = reads-first was now input left b [] e (λ before told room following holds
     front.
     subst (λ c. Read was c (b ∷ left) left [] before told (suc room) following) (sym n) (by before told room following
-        holds front))
+    holds front))
   where
     by : (before : List Token) (told : List Known) (room : ℕ) (following : List ℕ) → Holds was before told →
         IsFront told (news_from before (tokens was.offset (last before)
@@ -229,22 +239,22 @@ stamp_law was now input left b e a high n = reads-first was now input left b [] 
         (suc room) following
     by before told room following holds front =
         let k : byte_token was.offset (last before) b ≡ Stamp was.offset (b % 128) = holds.kind was.offset b ∙
-            ap (λ h. byte_token was.offset (token_behind h) b) a ∙
-            ap (λ c. if c then Data was.offset b else Stamp was.offset (b % 128)) high in
+        ap (λ h. byte_token was.offset (token_behind h) b) a ∙
+        ap (λ c. if c then Data was.offset b else Stamp was.offset (b % 128)) high in
         let t : Token = Stamp was.offset (b % 128) in
         let s : NoStamp before holds.stamp = subst (λ h. StampIs h was.offset before holds.stamp) a holds.stamp_is in
         let is : told ≡ holds.early = holds.told_is ∙ ap (λ z. z ++ holds.early) s.0 in
         let rest : List Known = news_from (t ∷ before) (tokens (was.offset + 1) t (rest_parts room (left ++
-            following))) in
+        following))) in
         let there : IsFront holds.early rest = subst (λ z. IsFront z rest) is
-            (subst (λ u. IsFront told (token_news before u ++
-            news_from (u ∷ before) (tokens (was.offset + 1) u (rest_parts room (left ++ following))))) k front) in
+        (subst (λ u. IsFront told (token_news before u ++
+        news_from (u ∷ before) (tokens (was.offset + 1) u (rest_parts room (left ++ following))))) k front) in
         let early : holds.early ≡ [] = none-early was.offset holds.early rest holds.are_early there
-            (later-not (t ∷ before) t was.offset room (left ++ following)) in
+        (later-not (t ∷ before) t was.offset room (left ++ following)) in
         read-one was (stamped_at was b) b left [] before told room following t [] [] k refl
         (holds-quiet was (stamped_at was b) t before told holds early refl refl (ap (λ c. stamped c (b % 128))
-            holds.clock_is) refl refl (omega arith) (λ at x. refl) (refl, λ low rank ka. refl)) refl (append-nil told ∙
-            is ∙ early) (nothing _)
+        holds.clock_is) refl refl (omega arith) (λ at x. refl) (refl, λ low rank ka. refl)) refl (append-nil told ∙
+        is ∙ early) (nothing _)
 
 -- the note of a stamp before a data byte at which no running message may begin
 pub lone_law : (was now : Content) (input left : List ℕ) (b at : ℕ) (may : Bool) → input ≡ b ∷ left →
@@ -255,46 +265,46 @@ lone_law was now input left b at may e a low is_no law n = record {
   reads = λ before told room following holds fits front. subst (λ c. Read was c input input (Notes at LoneStamp ∷ [])
       before told room following) (sym n)
       (subst (λ z. Read was (record was { head = head.Spent }) z z (Notes at LoneStamp ∷ []) before told room following)
-          (sym e) (by before told room following holds (subst (λ z. length z ≤ room) e fits)
-          (subst (λ z. IsFront told (news_from before (tokens was.offset (last before) (rest_parts room (z ++
-          following))))) e front)));
+      (sym e) (by before told room following holds (subst (λ z. length z ≤ room) e fits)
+      (subst (λ z. IsFront told (news_from before (tokens was.offset (last before) (rest_parts room (z ++
+      following))))) e front)));
 }
   where
     by : (before : List Token) (told : List Known) (room : ℕ) (following : List ℕ) → Holds was before told →
         length (b ∷ left) ≤ room →
         IsFront told (news_from before (tokens was.offset (last before) (rest_parts room ((b ∷ left) ++ following)))) →
-            Read was (record was { head = head.Spent }) (b ∷ left) (b ∷ left) (Notes at LoneStamp ∷ []) before told room
-            following
+        Read was (record was { head = head.Spent }) (b ∷ left) (b ∷ left) (Notes at LoneStamp ∷ []) before told room
+        following
     by before told zero following holds fits front = absurd (omega arith)
     by before told (suc room) following holds fits front =
         let o : ℕ = was.offset in
         let k : byte_token o (last before) b ≡ Data o b = holds.kind o b ∙ ap (λ h. byte_token o (token_behind h) b) a ∙
-            ap (λ c. if c then Data o b else Status o b) low in
+        ap (λ c. if c then Data o b else Status o b) low in
         let s : (holds.stamp ≡ []) × ((low : Bool) (rank known_at : ℕ) → lone low rank known_at before ≡
-            (if low then [] else noted rank (clock before).moment known_at at LoneStamp ∷ [])) =
-            subst (λ h. StampIs h o before holds.stamp) a holds.stamp_is in
+        (if low then [] else noted rank (clock before).moment known_at at LoneStamp ∷ [])) =
+        subst (λ h. StampIs h o before holds.stamp) a holds.stamp_is in
         let is : told ≡ holds.early = holds.told_is ∙ ap (λ z. z ++ holds.early) s.0 in
         let m : Bool = may_run (last_of (payload before)) in
         let ns : List Known = news (last_of (payload before)) (spot before o b) in
         let rest : List Known = news_from (Data o b ∷ before) (tokens (o + 1) (Data o b) (rest_parts room (left ++
-            following))) in
+        following))) in
         let whole : IsFront holds.early ((lone m 0 o before ++ ns) ++ rest) =
-            subst (λ z. IsFront z ((lone m 0 o before ++ ns) ++ rest)) is
-            (subst (λ u. IsFront told (token_news before u ++
-            news_from (u ∷ before) (tokens (o + 1) u (rest_parts room (left ++ following))))) k front) in
+        subst (λ z. IsFront z ((lone m 0 o before ++ ns) ++ rest)) is
+        (subst (λ u. IsFront told (token_news before u ++
+        news_from (u ∷ before) (tokens (o + 1) u (rest_parts room (left ++ following))))) k front) in
         let early : holds.early ≡ [] = none-early o holds.early ((lone m 0 o before ++ ns) ++ rest) holds.are_early
-            whole
+        whole
         (Each-append (Not o) (lone m 0 o before ++ ns) rest (Each-append (Not o) (lone m 0 o before) ns
-            (subst (Each (Not o)) (sym (s.1 m 0 o)) (lone-not m before)) (data-not (last_of (payload before))
-            (spot before o b) low)) (later-not (Data o b ∷ before) (Data o b) o room (left ++ following))) in
+        (subst (Each (Not o)) (sym (s.1 m 0 o)) (lone-not m before)) (data-not (last_of (payload before))
+        (spot before o b) low)) (later-not (Data o b ∷ before) (Data o b) o room (left ++ following))) in
         let none : told ≡ [] = is ∙ early in
         let note : Known = noted 0 (clock before).moment o at LoneStamp in
         let off : m ≡ false = sym (law (payload before) (rest_stands was before told holds early)) ∙ is_no in
         let now : Content = record was { head = head.Spent } in
         let one : lone m 0 o before ≡ note ∷ [] = s.1 m 0 o ∙ ap (λ c. if c then [] else note ∷ []) off in
         let still : IsFront (told ++ note ∷ []) ((lone m 0 o before ++ ns) ++ rest) =
-            subst (λ z. IsFront (z ++ note ∷ []) ((lone m 0 o before ++ ns) ++ rest)) (sym none)
-            ((ns ++ rest, ap (λ z. (z ++ ns) ++ rest) one)) in
+        subst (λ z. IsFront (z ++ note ∷ []) ((lone m 0 o before ++ ns) ++ rest)) (sym none)
+        ((ns ++ rest, ap (λ z. (z ++ ns) ++ rest) one)) in
         read-none was now (b ∷ left) (Notes at LoneStamp ∷ []) before told (suc room) following (note ∷ []) refl
         (record {
           clock_is = holds.clock_is;
@@ -313,7 +323,7 @@ lone_law was now input left b at may e a low is_no law n = record {
         })
         (ap (λ c. record { moment = c.moment; told = Notes at LoneStamp } ∷ []) (sym holds.clock_is))
         (subst (λ u. IsFront (told ++ note ∷ []) (token_news before u ++
-            news_from (u ∷ before) (tokens (o + 1) u (rest_parts room (left ++ following))))) (sym k) still)
+        news_from (u ∷ before) (tokens (o + 1) u (rest_parts room (left ++ following))))) (sym k) still)
       where
         lone-not : (c : Bool) (before : List Token) → Each (Not was.offset) (if c then [] else
             noted 0 (clock before).moment was.offset at LoneStamp ∷ [])

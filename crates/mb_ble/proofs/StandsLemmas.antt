@@ -26,14 +26,14 @@ pub stands-put : (old new : Writer) (moment : ℕ) (e : Ev) (puts : List Put) �
     Stands old puts → Stands new (puts ++ puts_at moment (signs_of_event e))
 stands-put old new moment e puts suits opened packet s =
     let more : signs_in (puts ++ puts_at moment (signs_of_event e)) ≡ signs_in puts ++ signs_of_event e =
-        signs_in-more puts moment (signs_of_event e) in
+    signs_in-more puts moment (signs_of_event e) in
     record {
       each_suits = ap suited more ∙ joined (signs_in puts) e s.each_suits (subst (λ (o : Bool). suits_event o e ≡ true)
           s.open_now suits);
       open_now =
           opened ∙ sym (open_from-event old.in_sysex e suits) ∙
           ap (λ (o : Bool). open_from o (signs_of_event e)) s.open_now ∙
-              sym (is_open-append (signs_in puts) (signs_of_event e)) ∙ ap is_open (sym more);
+          sym (is_open-append (signs_in puts) (signs_of_event e)) ∙ ap is_open (sym more);
       holds = subst (λ (p : OpenPacket). Holds p (puts ++ puts_at moment (signs_of_event e))) (sym packet)
           (all_hold old.packet puts moment (signs_of_event e) s.holds).0;
     }

@@ -42,11 +42,17 @@ open-full g o = by g.status o
     false≢true e = cc
 
     by : (st : Option ℕ) → (elim st as (λ _. Bool) [ None ↦ false | Some s ↦ s == 0xf0 ]) ≡ true →
-        (elim st as (λ _. Bool) [ None ↦ false | Some s ↦ not (is_channel s) && elim (data_length s) as (λ _. Bool)
-        [ None ↦ false | Some k ↦ nat_le k (length g.data_bytes) ] ]) ≡ false
+        (elim st as (λ _. Bool) [
+          | None ↦ false
+          | Some s ↦ not (is_channel s) && elim (data_length s) as (λ _. Bool)
+              [ None ↦ false | Some k ↦ nat_le k (length g.data_bytes) ]
+        ]) ≡ false
     by None e = refl
-    by (Some s) e = subst (λ z. (not (is_channel z) && elim (data_length z) as (λ _. Bool) [ None ↦ false | Some k ↦
-        nat_le k (length g.data_bytes) ]) ≡ false) (sym (is s e)) refl
+    by (Some s) e = subst (λ z. (not (is_channel z) && elim (data_length z) as (λ _. Bool) [
+      | None ↦ false
+      | Some k ↦
+          nat_le k (length g.data_bytes)
+    ]) ≡ false) (sym (is s e)) refl
       where
         is : (s : ℕ) → (s == 0xf0) ≡ true → s ≡ 0xf0
         is s e = grind (arith, nat_tests)
@@ -118,25 +124,25 @@ ran (b ∷ run) o m before low op c k s =
     let is_x : spot before o b ≡ x = ap (λ n. record { at = o; byte = b; moment = n }) c in
     let es : List Entry = payload before in
     let pay : payload (t ∷ before) ≡ es ++ Heard x ∷ [] = data-payload before o b low.0 op ∙
-        ap (λ z. es ++ Heard z ∷ []) is_x in
+    ap (λ z. es ++ Heard z ∷ []) is_x in
     let rest : Ran (o + 1) m (t ∷ before) run = ran run (o + 1) m (t ∷ before) low.1 (data-open before o b low.0 op) c
-        (λ at y. refl) (λ l r ka. refl) in
+    (λ at y. refl) (λ l r ka. refl) in
     let tok : byte_token o (last before) b ≡ t = k o b ∙ ap (λ c. if c then Data o b else
-        Stamp o (Rattle.std.specs.Prelude.◌%◌ b 128)) low.0 in
+    Stamp o (Rattle.std.specs.Prelude.◌%◌ b 128)) low.0 in
     record {
       toks = λ r more.
           ap (λ n. tokens o (last before) (rest_parts n (b ∷ (run ++ more)))) (suc-in (length run) r)
           ∙ ap (λ u. u ∷ tokens (o + 1) u (rest_parts (length run + r) (run ++ more))) tok ∙
-              ap (λ z. t ∷ z) (rest.toks r more)
+          ap (λ z. t ∷ z) (rest.toks r more)
           ∙ ap (λ n. t ∷ (datas (o + 1) run ++ tokens n (last (onto (t ∷ before) (datas (o + 1) run)))
-              (rest_parts r more))) (one-in o (length run));
+          (rest_parts r more))) (one-in o (length run));
       payload_is = rest.payload_is ∙ ap (λ z. z ++ heard_from (o + 1) m run) pay ∙ append_assoc es (Heard x ∷ [])
           (heard_from (o + 1) m run);
       news_is =
           ap₂ (λ u v. (u ++ v) ++ news_from (t ∷ before) (datas (o + 1) run))
-              (s (Rattle.mb_stream.specs.Told.may_run (last_of es)) 0 o) (ap (news (last_of es)) is_x)
+          (s (Rattle.mb_stream.specs.Told.may_run (last_of es)) 0 o) (ap (news (last_of es)) is_x)
           ∙ ap (λ z. news (last_of es) x ++ z) (rest.news_is ∙ ap (λ g. stream.news_from g (heard_from (o + 1) m run))
-              (ap last_of pay ∙ last_of-append es (Heard x ∷ [])));
+          (ap last_of pay ∙ last_of-append es (Heard x ∷ [])));
       clock_is = rest.clock_is;
       running_is = rest.running_is;
       kind = rest.kind;
@@ -158,7 +164,7 @@ run-high [] o m g low = tt
 run-high (b ∷ run) o m g low =
     let x : Spot = record { at = o; byte = b; moment = m } in
     Each-append High (news g x) (stream.news_from (behind_entry g (Heard x)) (heard_from (o + 1) m run)) (one g x low.0)
-        (run-high run (o + 1) m (behind_entry g (Heard x)) low.1)
+    (run-high run (o + 1) m (behind_entry g (Heard x)) low.1)
   where
     ranks : (at low : ℕ) (ks : List Known) → 2 ≤ low → Climb at low ks → Each High ks
     ranks at low [] le c = tt
@@ -178,7 +184,7 @@ run-timely [] o m g = tt
 run-timely (b ∷ run) o m g =
     let x : Spot = record { at = o; byte = b; moment = m } in
     Each-append (Timely m) (news g x) (stream.news_from (behind_entry g (Heard x)) (heard_from (o + 1) m run))
-        (timely g x) (run-timely run (o + 1) m (behind_entry g (Heard x)))
+    (timely g x) (run-timely run (o + 1) m (behind_entry g (Heard x)))
 
 none-ahead : (ks whole : List Known) (now was : State) → IsAhead now was ks → IsFront ks whole → Each High whole →
     ks ≡ []
@@ -216,29 +222,29 @@ pub run_dined : (placed now : State) (handed left : List ℕ) (seen : List Told)
 run_dined placed now handed left seen es o m there end st low g =
     let front : handed ≡ g.taken ++ left = g.front in
     let s0 : Stands now (es ++ heard_from o m g.taken) (so_far es ++ g.fresh) =
-        subst (λ n. Stands now (es ++ heard_from n m g.taken) (so_far es ++ g.fresh)) there g.stands in
+    subst (λ n. Stands now (es ++ heard_from n m g.taken) (so_far es ++ g.fresh)) there g.stands in
     let p : ℕ = o + length g.taken in
     let split : es ++ heard_from o m handed ≡ (es ++ heard_from o m g.taken) ++ heard_from p m left =
-        ap (λ z. es ++ heard_from o m z) front ∙ ap (λ z. es ++ z) (heard-append o m g.taken left p refl) ∙
-        sym (append_assoc es (heard_from o m g.taken) (heard_from p m left)) in
+    ap (λ z. es ++ heard_from o m z) front ∙ ap (λ z. es ++ z) (heard-append o m g.taken left p refl) ∙
+    sym (append_assoc es (heard_from o m g.taken) (heard_from p m left)) in
     let es2 : List Entry = es ++ heard_from o m g.taken in
     let off : now.offset ≡ p = omega (arith, end, ap length front, length-append g.taken left) in
     let later : so_far (es2 ++ heard_from p m left) ≡ so_far es2 ++ stream.news_from (last_of es2)
-        (heard_from p m left) =
+    (heard_from p m left) =
     so_far-append es2 (heard_from p m left) (rises-to 0 now.offset es2 (heard_from p m left) s0.rises
-        (heard-from p m left now.offset (omega (arith, off)))) (rises-from 0 now.offset es2 s0.rises) in
+    (heard-from p m left now.offset (omega (arith, off)))) (rises-from 0 now.offset es2 s0.rises) in
     let still : IsFront s0.ahead (stream.news_from (last_of es2) (heard_from p m left)) =
     front-off (so_far es2) s0.ahead (stream.news_from (last_of es2) (heard_from p m left))
-        (subst (λ z. IsFront z (so_far es2 ++ stream.news_from (last_of es2) (heard_from p m left))) s0.told_is
-        (subst (IsFront (so_far es ++ g.fresh)) (ap so_far split ∙ later) g.still)) in
+    (subst (λ z. IsFront z (so_far es2 ++ stream.news_from (last_of es2) (heard_from p m left))) s0.told_is
+    (subst (IsFront (so_far es ++ g.fresh)) (ap so_far split ∙ later) g.still)) in
     let none : s0.ahead ≡ [] = none-ahead s0.ahead (stream.news_from (last_of es2) (heard_from p m left)) now
-        (state_of now.offset (last_of es2)) s0.state still (run-high left p m (last_of es2)
-        (low-back g.taken left (subst Low front low))) in
+    (state_of now.offset (last_of es2)) s0.state still (run-high left p m (last_of es2)
+    (low-back g.taken left (subst Low front low))) in
     let all : so_far es ++ g.fresh ≡ so_far es2 = s0.told_is ∙ ap (λ z. so_far es2 ++ z) none ∙
-        append-nil (so_far es2) in
+    append-nil (so_far es2) in
     let grows : so_far es2 ≡ so_far es ++ stream.news_from (last_of es) (heard_from o m g.taken) =
     so_far-append es (heard_from o m g.taken) (rises-to 0 placed.offset es (heard_from o m g.taken) st.rises
-        (heard-from o m g.taken placed.offset (omega (arith, there)))) (rises-from 0 placed.offset es st.rises) in
+    (heard-from o m g.taken placed.offset (omega (arith, there)))) (rises-from 0 placed.offset es st.rises) in
     record {
       fresh = g.fresh;
       answer_is = g.answer_is;
@@ -261,10 +267,14 @@ pub run_taken : (was now : Content) (b : ℕ) (run left : List ℕ) (seen : List
     (told : List Known) (room : ℕ) (following : List ℕ) (stamp : List Known) (dinm : State) → Holds was before told →
     nat_lt b 128 ≡ true → Low run →
     byte_token was.offset (last before) b ≡ Data was.offset b → unit_note before (Data was.offset b) ≡ told →
-        is_sysex (last_of (payload before)) ≡ true → length (b ∷ run) ≤ room →
-    RunDined dinm (b ∷ run) seen (payload before) was.offset (clock before).moment → now ≡ record was { offset =
-        was.offset + length (b ∷ run); head = head.Inside; din = dinm } → Read was now ((b ∷ run) ++ left) left seen
-        before told room following
+    is_sysex (last_of (payload before)) ≡ true → length (b ∷ run) ≤ room →
+    RunDined dinm (b ∷ run) seen (payload before) was.offset (clock before).moment → now ≡ record was {
+      offset =
+          was.offset + length (b ∷ run);
+      head = head.Inside;
+      din = dinm;
+    } → Read was now ((b ∷ run) ++ left) left seen
+    before told room following
 run_taken was now b run left seen before told room following stamp dinm holds low lows tok note op fits d is =
     subst (λ c. Read was c ((b ∷ run) ++ left) left seen before told room following) (sym is) read
   where
@@ -299,10 +309,10 @@ run_taken was now b run left seen before told room following stamp dinm holds lo
         stream.news_from (last_of es) (heard_from was.offset (clock before).moment (b ∷ run))
     news_all =
         ap (λ z. (z ++ news (last_of es) x) ++ news_from (t ∷ before) (datas (o + 1) run)) note ∙
-            append_assoc told (news (last_of es) x) (news_from (t ∷ before) (datas (o + 1) run))
+        append_assoc told (news (last_of es) x) (news_from (t ∷ before) (datas (o + 1) run))
         ∙ ap (λ z. told ++ (news (last_of es) x ++ z)) (r.news_is ∙
-            ap (λ g. stream.news_from g (heard_from (o + 1) m run))
-            (ap last_of (data-payload before was.offset b low op) ∙ last_of-append es (Heard x ∷ [])))
+        ap (λ g. stream.news_from g (heard_from (o + 1) m run))
+        (ap last_of (data-payload before was.offset b low op) ∙ last_of-append es (Heard x ∷ [])))
 
     sums : (room : ℕ) → length (b ∷ run) ≤ room → room ≡ suc (length run + (room - length (b ∷ run)))
     sums room le = omega (arith, le)
@@ -326,15 +336,17 @@ run_taken was now b run left seen before told room following stamp dinm holds lo
       parts = λ more.
           ap (λ n. tokens o (last before) (rest_parts n (b ∷ (run ++ more)))) (sums room fits)
           ∙ ap (λ u. u ∷ tokens (o + 1) u (rest_parts (length run + (room - length (b ∷ run))) (run ++ more))) tok ∙
-              ap (λ z. t ∷ z) (r.toks (room - length (b ∷ run)) more)
+          ap (λ z. t ∷ z) (r.toks (room - length (b ∷ run)) more)
           ∙ ap (λ n. t ∷ (datas (o + 1) run ++ tokens n (last (onto (t ∷ before) (datas (o + 1) run)))
-              (rest_parts (room - length (b ∷ run)) more))) (shift o);
+          (rest_parts (room - length (b ∷ run)) more))) (shift o);
       ahead = [];
       holds = record {
         clock_is = holds.clock_is ∙ sym r.clock_is;
         running_is = holds.running_is ∙ sym r.running_is;
-        runs = λ s e. ((holds.runs s (sym r.running_is ∙ e)).0,
-            open-full (last_of (payload (onto (t ∷ before) (datas (o + 1) run)))) open-now);
+        runs = λ s e. (
+          (holds.runs s (sym r.running_is ∙ e)).0,
+          open-full (last_of (payload (onto (t ∷ before) (datas (o + 1) run)))) open-now,
+        );
         kind = r.kind;
         stamp = [];
         early = [];

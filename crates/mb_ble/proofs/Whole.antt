@@ -51,18 +51,18 @@ pub known-split : (now : Position) (bytes more : List ℕ) (told : List Known) (
     (from now.frames more))
 known-split now bytes more told st =
     ble_known-news (bytes ++ more) ∙ ap (news_from []) (st.tokens_are more) ∙
-        news-append st.taken (tokens now.content.offset (last st.before) (from now.frames more)) []
+    news-append st.taken (tokens now.content.offset (last st.before) (from now.frames more)) []
     ∙ ap (λ b. news_from [] st.taken ++ news_from b (tokens now.content.offset (last st.before) (from now.frames more)))
-        (sym st.before_is)
+    (sym st.before_is)
 
 pub ahead-front : (now : Position) (bytes input : List ℕ) (told : List Known) (st : BleStands now bytes told) →
     IsFront told (ble_known (bytes ++ input)) → IsFront st.ahead
     (news_from st.before (tokens now.content.offset (last st.before) (from now.frames input)))
 ahead-front now bytes input told st f =
     front-off (news_from [] st.taken) st.ahead (news_from st.before (tokens now.content.offset (last st.before)
-        (from now.frames input)))
+    (from now.frames input)))
     (subst (λ z. IsFront z (news_from [] st.taken ++ news_from st.before (tokens now.content.offset (last st.before)
-        (from now.frames input)))) st.told_is (subst (IsFront told) (known-split now bytes input told st) f))
+    (from now.frames input)))) st.told_is (subst (IsFront told) (known-split now bytes input told st) f))
 
 -- a step: these bytes and tokens were taken
 pub record Steps (was now : Position) (input left : List ℕ) (seen : List Part) (before : List Token)
@@ -93,8 +93,10 @@ pub tells-step : (was now : Position) (input left : List ℕ) (seen : List Part)
     ((before : List Token) (ahead : List Known) → Holds was.content before ahead →
     IsFront ahead (news_from before (tokens was.content.offset (last before) (from was.frames input))) →
     Steps was now input left seen before ahead) → BleTells was now input left seen
-tells-step was now input left seen f = record { goes = λ bytes told st front.
-    by bytes told st (f st.before st.ahead st.holds (ahead-front was bytes input told st front)) }
+tells-step was now input left seen f = record {
+  goes = λ bytes told st front.
+      by bytes told st (f st.before st.ahead st.holds (ahead-front was bytes input told st front));
+}
   where
     by : (bytes : List ℕ) (told : List Known) (st : BleStands was bytes told) → Steps was now input left seen st.before
         st.ahead → Goes part_of ble_known (BleStands now) input left seen bytes told
@@ -102,19 +104,19 @@ tells-step was now input left seen f = record { goes = λ bytes told st front.
         let nows : List Token = st.taken ++ s.new in
         let told_now : told ++ s.fresh ≡ news_from [] nows ++ s.then_ahead =
         ap (λ z. z ++ s.fresh) st.told_is ∙ append_assoc (news_from [] st.taken) st.ahead s.fresh ∙
-            ap (λ z. news_from [] st.taken ++ z) s.told_is ∙
-            sym (append_assoc (news_from [] st.taken) (news_from st.before s.new) s.then_ahead)
+        ap (λ z. news_from [] st.taken ++ z) s.told_is ∙
+        sym (append_assoc (news_from [] st.taken) (news_from st.before s.new) s.then_ahead)
         ∙ ap (λ z. z ++ s.then_ahead) (ap (λ b. news_from [] st.taken ++ news_from b s.new) st.before_is ∙
-            sym (news-append st.taken s.new [])) in
+        sym (news-append st.taken s.new [])) in
         let stands : BleStands now (bytes ++ s.taken) (told ++ s.fresh) = record {
           taken = nows;
           before = onto st.before s.new;
           before_is = ap (λ z. onto z s.new) st.before_is ∙ sym (onto-append st.taken s.new []);
           tokens_are = λ more.
               ap all_tokens (append_assoc bytes s.taken more) ∙ st.tokens_are (s.taken ++ more) ∙
-                  ap (λ z. st.taken ++ z) (s.parts_are more)
+              ap (λ z. st.taken ++ z) (s.parts_are more)
               ∙ sym (append_assoc st.taken s.new (tokens now.content.offset (last (onto st.before s.new))
-                  (from now.frames more)));
+              (from now.frames more)));
           ahead = s.then_ahead;
           told_is = told_now;
           holds = s.holds;
@@ -123,10 +125,10 @@ tells-step was now input left seen f = record { goes = λ bytes told st front.
               s.whole_is more;
         } in
         let rest : List Known = news_from (onto st.before s.new) (tokens now.content.offset
-            (last (onto st.before s.new)) (from now.frames left)) in
+        (last (onto st.before s.new)) (from now.frames left)) in
         let known : ble_known (bytes ++ input) ≡ news_from [] nows ++ rest = ap (λ z. ble_known (bytes ++ z)) s.front ∙
-            ap ble_known (sym (append_assoc bytes s.taken left)) ∙ known-split now (bytes ++ s.taken) left (told ++
-            s.fresh) stands in
+        ap ble_known (sym (append_assoc bytes s.taken left)) ∙ known-split now (bytes ++ s.taken) left (told ++
+        s.fresh) stands in
         record {
           taken = s.taken;
           front = s.front;
@@ -173,16 +175,16 @@ all_told was now input left t e z bytes told st front = by (t.goes bytes told st
         let all : input ≡ g.taken = g.front ∙ ap (λ z. g.taken ++ z) e ∙ append-nil g.taken in
         let b : List Token = g.stands.before in
         let toks : tokens now.content.offset (last b) (from now.frames []) ≡ [] =
-            nothing-more now.frames now.content.offset (last b) z in
+        nothing-more now.frames now.content.offset (last b) z in
         let known : ble_known (bytes ++ input) ≡ news_from [] g.stands.taken =
         ap (λ z. ble_known (bytes ++ z)) all ∙ ap ble_known (sym (append-nil (bytes ++ g.taken))) ∙
-            known-split now (bytes ++ g.taken) [] (told ++ g.fresh) g.stands ∙ ap (λ z. news_from [] g.stands.taken ++
-            news_from b z) toks ∙ append-nil (news_from [] g.stands.taken) in
+        known-split now (bytes ++ g.taken) [] (told ++ g.fresh) g.stands ∙ ap (λ z. news_from [] g.stands.taken ++
+        news_from b z) toks ∙ append-nil (news_from [] g.stands.taken) in
         let told_is : told ≡ news_from [] g.stands.taken ++ g.stands.ahead = sym none ∙ g.stands.told_is in
         let ahead : g.stands.ahead ≡ [] = nothing-behind (news_from [] g.stands.taken) g.stands.ahead g.still.0
-            (sym known ∙ g.still.1 ∙ ap (λ z. z ++ g.still.0) g.stands.told_is) in
+        (sym known ∙ g.still.1 ∙ ap (λ z. z ++ g.still.0) g.stands.told_is) in
         told_is ∙ ap (λ z. news_from [] g.stands.taken ++ z) ahead ∙ append-nil (news_from [] g.stands.taken) ∙
-            sym known
+        sym known
 
 -- bytes of a content pass
 pub whole-pass : (xs : List ℕ) (r : ℕ) (more : List ℕ) → length xs ≤ r → whole_from r (xs ++ more) ≡
@@ -217,7 +219,7 @@ pub content_tells : (was now : Position) (input piece left final : List ℕ) (le
     0 < room_of was.frames → len ≤ room_of was.frames → len ≤ length input → piece ≡ take len input →
     Reads was.content now.content piece left seen → Counts was.content now.content piece left →
     used ≡ len - length left → now.frames ≡ passed was.frames used → final ≡ drop used input →
-        BleTells was now input final (map (λ t. record { moment = now.content.clock.moment; told = t }) seen)
+    BleTells was now input final (map (λ t. record { moment = now.content.clock.moment; told = t }) seen)
 content_tells was now input piece left final len used seen pos fits short p reads counts u moves fin =
     tells-step was now input final (map (λ t. record { moment = now.content.clock.moment; told = t }) seen)
     (λ before ahead holds front. by was.frames refl pos fits moves before ahead holds front)
@@ -238,10 +240,10 @@ content_tells was now input piece left final len used seen pos fits short p read
     goes r frames e f room_fits g before ahead rd =
         let a : length piece ≡ length rd.taken + length left = ap length rd.front ∙ length-append rd.taken left in
         let b : length piece ≡ length counts.taken + length left = ap length counts.front ∙
-            length-append counts.taken left in
+        length-append counts.taken left in
         let n : used ≡ length rd.taken = omega (arith, u, a, size) in
         let whole : input ≡ rd.taken ++ (left ++ beyond) = cut ∙ ap (λ z. z ++ beyond) rd.front ∙
-            append_assoc rd.taken left beyond in
+        append_assoc rd.taken left beyond in
         let final_is : final ≡ left ++ beyond = fin ∙ ap₂ drop n whole ∙ drop-front rd.taken (left ++ beyond) in
         let place_was : was.frames ≡ Within r = e ∙ f in
         let place_now : now.frames ≡ Within (r - length rd.taken) = g ∙ ap (λ z. Within (r - z)) n in
@@ -251,8 +253,8 @@ content_tells was now input piece left final len used seen pos fits short p read
           front = whole ∙ ap (λ z. rd.taken ++ z) (sym final_is);
           parts_are = λ more.
               ap (λ q. tokens was.content.offset (last before) (from q (rd.taken ++ more))) place_was ∙ rd.parts more ∙
-                  ap (λ q. rd.new ++ tokens now.content.offset (last (onto before rd.new)) (from q more))
-                  (sym place_now);
+              ap (λ q. rd.new ++ tokens now.content.offset (last (onto before rd.new)) (from q more))
+              (sym place_now);
           then_ahead = rd.ahead;
           holds = rd.holds;
           fresh = rd.fresh;
@@ -261,7 +263,7 @@ content_tells was now input piece left final len used seen pos fits short p read
           still = subst (λ q. IsFront rd.ahead (news_from (onto before rd.new) (tokens now.content.offset
               (last (onto before rd.new)) (from q final)))) (sym place_now)
               (subst (λ z. IsFront rd.ahead (news_from (onto before rd.new) (tokens now.content.offset
-                  (last (onto before rd.new)) (rest_parts (r - length rd.taken) z)))) (sym final_is) rd.still);
+              (last (onto before rd.new)) (rest_parts (r - length rd.taken) z)))) (sym final_is) rd.still);
           offset = ap (λ q. now.content.offset + half q) place_now ∙ sums was.content.offset now.content.offset
               (length counts.taken) (length rd.taken) (length left) (length piece) counts.offset a b ∙
               ap (λ q. was.content.offset + half q + length rd.taken) (sym place_was);
@@ -280,23 +282,31 @@ content_tells was now input piece left final len used seen pos fits short p read
     by Between e pos fits moves before ahead holds front = absurd (omega (arith, pos))
     by (High h) e pos fits moves before ahead holds front = absurd (omega (arith, pos))
     by (Within r) e pos fits moves before ahead holds front =
-        goes r (Within r) e refl fits moves before ahead (reads.reads before ahead r beyond holds (omega (arith, size,
-            fits))
+        goes r (Within r) e refl fits moves before ahead (reads.reads before ahead r beyond holds (omega (
+          arith,
+          size,
+          fits,
+        ))
         (subst (λ z. IsFront ahead (news_from before (tokens was.content.offset (last before) (rest_parts r z)))) cut
-            (subst (λ q. IsFront ahead (news_from before (tokens was.content.offset (last before) (from q input)))) e
-            front)))
+        (subst (λ q. IsFront ahead (news_from before (tokens was.content.offset (last before) (from q input)))) e
+        front)))
 
 pub content_fit : (was now : Position) (piece left : List ℕ) (used : ℕ) → 0 < room_of was.frames → Fit was →
     Counts was.content now.content piece left → now.frames ≡ passed was.frames used → Fit now
-content_fit was now piece left used pos fit counts moves = record { calm = counts.calm fit.calm; linked =
-    by was.frames pos fit.linked moves }
+content_fit was now piece left used pos fit counts moves = record {
+  calm = counts.calm fit.calm;
+  linked =
+      by was.frames pos fit.linked moves;
+}
   where
     by : (frames : Place) → 0 < room_of frames → Linked frames was.content → now.frames ≡ passed frames used →
         Linked now.frames now.content
     by Between pos l m = absurd (omega (arith, pos))
     by (High h) pos l m = absurd (omega (arith, pos))
-    by (Within r) pos l m = subst (λ q. Linked q now.content) (sym m) (counts.inside l.0,
-        omega (arith, l.1, counts.offset))
+    by (Within r) pos l m = subst (λ q. Linked q now.content) (sym m) (
+      counts.inside l.0,
+      omega (arith, l.1, counts.offset),
+    )
 
 -- nothing taken, nothing told
 pub starts : (now : Position) → now.frames ≡ Between → now.content.offset ≡ 0 → now.content.head ≡ head.Between →
@@ -360,7 +370,7 @@ length_first was now input left b e same place none end between = tells-step was
     by : (f : Place) → was.frames ≡ f → now.frames ≡ behind_length f b → length_ended f b ≡ None → is_at_end f ≡ false →
         room_of f ≡ 0 → (before : List Token) (ahead : List Known) → Holds was.content before ahead →
         IsFront ahead (news_from before (tokens was.content.offset (last before) (from was.frames input))) →
-            Steps was now input left [] before ahead
+        Steps was now input left [] before ahead
     by (High h) i m n z r before ahead holds front = absurd (some_none (256 * h + b) n)
     by (Within k) i m n z r before ahead holds front = absurd (at_end k z r)
       where
@@ -372,8 +382,8 @@ length_first was now input left b e same place none end between = tells-step was
       front = e;
       parts_are = λ more.
           ap (λ q. tokens was.content.offset (last before) (from q (b ∷ more))) i ∙
-              ap (λ c. tokens c.offset (last before) (counted_parts (b ∷ more))) (sym same) ∙
-              ap (λ q. tokens now.content.offset (last before) (from q more)) (sym m);
+          ap (λ c. tokens c.offset (last before) (counted_parts (b ∷ more))) (sym same) ∙
+          ap (λ q. tokens now.content.offset (last before) (from q more)) (sym m);
       then_ahead = ahead;
       holds = subst (λ c. Holds c before ahead) (sym same) holds;
       fresh = [];
@@ -383,8 +393,8 @@ length_first was now input left b e same place none end between = tells-step was
           (sym m) (subst (λ c. IsFront ahead (news_from before (tokens c.offset (last before)
           (counted_parts (b ∷ left))))) (sym same)
           (subst (λ q. IsFront ahead (news_from before (tokens was.content.offset (last before) (from q (b ∷ left))))) i
-              (subst (λ y. IsFront ahead (news_from before (tokens was.content.offset (last before)
-              (from was.frames y)))) e front)));
+          (subst (λ y. IsFront ahead (news_from before (tokens was.content.offset (last before)
+          (from was.frames y)))) e front)));
       whole_is = λ more. ap (λ q. whole_at q (b ∷ more)) i ∙ ap (λ q. whole_at q more) (sym m);
       offset = ap₂ (λ c q. c.offset + half q) same m ∙ one-more was.content.offset ∙
           ap (λ q. was.content.offset + half q + length (b ∷ [])) (sym i);
@@ -394,11 +404,14 @@ length_first was now input left b e same place none end between = tells-step was
         one-more o = omega arith
 
 pub length_second : (was now : Position) (input left : List ℕ) (b len moment : ℕ) (seen : List Part) →
-    input ≡ b ∷ left → Fit was → now.content ≡ (let c : Content = was.content in record c { offset = c.offset + 2;
-    head = head.Header; running = None }) → now.frames ≡ behind_length was.frames b → length_ended was.frames b ≡
+    input ≡ b ∷ left → Fit was → now.content ≡ (let c : Content = was.content in record c {
+      offset = c.offset + 2;
+      head = head.Header;
+      running = None;
+    }) → now.frames ≡ behind_length was.frames b → length_ended was.frames b ≡
     Some len →
     moment ≡ was.content.clock.moment → seen ≡ map (λ t. record { moment = moment; told = t })
-        (empty_told was.content.offset len) → BleTells was now input left seen
+    (empty_told was.content.offset len) → BleTells was now input left seen
 length_second was now input left b len moment seen e fit same place known mom told = tells-step was now input left seen
     (λ before ahead holds front. by was.frames refl place known fit.linked before ahead holds)
   where
@@ -419,8 +432,13 @@ length_second was now input left b len moment seen e fit same place known mom to
         let m' : now.frames ≡ Within len = m ∙ ap Within k in
         let t : Token = Begins o len in
         let q = between_quiet was.content before ahead l holds in
-        let goes : Content = record { offset = was.content.offset + 2; head = head.Header; clock = was.content.clock;
-            running = None; din = was.content.din } in
+        let goes : Content = record {
+          offset = was.content.offset + 2;
+          head = head.Header;
+          clock = was.content.clock;
+          running = None;
+          din = was.content.din;
+        } in
         let h2 : Holds goes (t ∷ before) [] = record {
           clock_is = holds.clock_is;
           running_is = refl;
@@ -443,9 +461,9 @@ length_second was now input left b len moment seen e fit same place known mom to
           front = e;
           parts_are = λ more.
               ap (λ p. tokens o (last before) (from p (b ∷ more))) i ∙
-                  ap (λ n. Begins o n ∷ tokens (o + 2) (Begins o n) (rest_parts n more)) k
+              ap (λ n. Begins o n ∷ tokens (o + 2) (Begins o n) (rest_parts n more)) k
               ∙ ap (λ c. t ∷ tokens c.offset t (rest_parts len more)) (sym same) ∙
-                  ap (λ p. t ∷ tokens now.content.offset t (from p more)) (sym m');
+              ap (λ p. t ∷ tokens now.content.offset t (from p more)) (sym m');
           then_ahead = [];
           holds = subst (λ c. Holds c (t ∷ before) []) (sym same) h2;
           fresh = note;

@@ -30,26 +30,40 @@ flushed-cost [] = refl
 flushed-cost (x ∷ before) = omega arith
 
 cost-more : (x : Spelled) (before : List Spelled) → cost (x ∷ before) ≤ cost before + 7
-cost-more x [] = omega (arith, length-append (content []) (spelling [] x), short_spelling (running_of []) x.moment
-    x.mark)
-cost-more x (y ∷ before) = omega (arith, length-append (content (y ∷ before)) (spelling (y ∷ before) x),
-    short_spelling (running_of (y ∷ before)) x.moment x.mark)
+cost-more x [] = omega (
+  arith,
+  length-append (content []) (spelling [] x),
+  short_spelling (running_of []) x.moment
+      x.mark,
+)
+cost-more x (y ∷ before) = omega (
+  arith,
+  length-append (content (y ∷ before)) (spelling (y ∷ before) x),
+  short_spelling (running_of (y ∷ before)) x.moment x.mark,
+)
 
 step-cost : (n : ℕ) (before : List Spelled) (p : Put) → length (given_at n before p) + cost (under_way_at n before p) ≤
     cost before + 7 * length (signs_in (p ∷ []))
 step-cost n before Flush = omega (arith, flushed-cost before)
 step-cost n before (At moment mark) = by (is_abort mark) refl (ends n before (record { moment = moment; mark = mark }))
   where
-    marked : (e : Bool) → length (if e then flushed before else []) + cost (if e then record { moment = moment; mark =
-        mark } ∷ [] else record { moment = moment; mark = mark } ∷ before) ≤ cost before + 7 * 1
+    marked : (e : Bool) → length (if e then flushed before else []) + cost (if e then record {
+      moment = moment;
+      mark =
+          mark;
+    } ∷ [] else record { moment = moment; mark = mark } ∷ before) ≤ cost before + 7 * 1
     marked true = omega (arith, flushed-cost before, cost-more (record { moment = moment; mark = mark }) [])
     marked false = omega (arith, cost-more (record { moment = moment; mark = mark }) before)
 
     by : (a : Bool) → is_abort mark ≡ a → Bool → length (given_at n before (At moment mark)) +
         cost (under_way_at n before (At moment mark)) ≤ cost before + 7 * 1
     by true a e = let z = at_abort n before moment mark a in omega (arith, ap length z.1, ap cost z.0)
-    by false a e = let z = at_spelled n before moment mark a in omega (arith, ap length z.1, ap cost z.0,
-        marked (ends n before (record { moment = moment; mark = mark })))
+    by false a e = let z = at_spelled n before moment mark a in omega (
+      arith,
+      ap length z.1,
+      ap cost z.0,
+      marked (ends n before (record { moment = moment; mark = mark })),
+    )
 
 one-more : (p : Put) (puts : List Put) → length (signs_in (p ∷ puts)) ≡ length (signs_in (p ∷ [])) +
     length (signs_in puts)
@@ -60,14 +74,25 @@ all-cost : (n : ℕ) (puts : List Put) (before : List Spelled) → length (live_
     cost (under_way_from n before puts) ≤ cost before + 7 * length (signs_in puts)
 all-cost n [] before = omega arith
 all-cost n (p ∷ puts) before =
-    omega (arith, length-append (given_at n before p) (live_from n (under_way_at n before p) puts),
-        step-cost n before p, all-cost n puts (under_way_at n before p), one-more p puts)
+    omega (
+      arith,
+      length-append (given_at n before p) (live_from n (under_way_at n before p) puts),
+      step-cost n before p,
+      all-cost n puts (under_way_at n before p),
+      one-more p puts,
+    )
 
 -- at most seven bytes a mark
 pub written-size : (n : ℕ) (puts : List Put) → length (ble_written n puts) ≤ 7 * length (signs_in puts)
 written-size n puts =
-    omega (arith, ap length (written_law n puts), length-append (ble_live n puts) (flushed (under_way n puts)),
-        ap length (live_law n puts), flushed-cost (under_way n puts), all-cost n puts [])
+    omega (
+      arith,
+      ap length (written_law n puts),
+      length-append (ble_live n puts) (flushed (under_way n puts)),
+      ap length (live_law n puts),
+      flushed-cost (under_way n puts),
+      all-cost n puts [],
+    )
 
 -- Whole frames.
 
@@ -115,7 +140,7 @@ live-whole n puts = ap ble_whole (live_law n puts ∙ sym (append-nil (live n pu
 pub written-whole : (n : ℕ) (puts : List Put) → ble_whole (ble_written n puts) ≡ true
 written-whole n puts =
     ap ble_whole (written_law n puts ∙ ap (λ z. z ++ flushed (under_way n puts)) (live_law n puts) ∙
-        sym (append-nil (live n puts ++ flushed (under_way n puts))))
+    sym (append-nil (live n puts ++ flushed (under_way n puts))))
     ∙ whole-both (live n puts) (flushed (under_way n puts)) (whole-live n puts []) (whole-flushed (under_way n puts)) []
 
 -- What is known stays known.
@@ -156,5 +181,5 @@ known-stays bytes more =
       news_from (onto [] (all_tokens bytes)) t.0,
       ble_known-news (bytes ++ more) ∙ (ap (λ ps. news_from [] (tokens 0 (Ends 0) ps)) p.1 ∙ (ap (news_from []) t.1
           ∙ (news-append (all_tokens bytes) t.0 [] ∙ ap (λ z. z ++ news_from (onto [] (all_tokens bytes)) t.0)
-              (sym (ble_known-news bytes))))),
+          (sym (ble_known-news bytes))))),
     )

@@ -54,12 +54,12 @@ parts-frame c more =
 -- Bytes of a content, to the end of its frame.
 read-content : (c : List ℕ) (p : Packeted) (more : List FramePart) →
     read_parts p (map FrameByte c ++ FrameEnd ∷ more) ≡ body_tells p c ++
-        read_parts (between (cut (body_after p c).reader)) more
+    read_parts (between (cut (body_after p c).reader)) more
 read-content [] p more = refl
 read-content (b ∷ c) p more =
     ap (λ z. byte_tells p.place p.reader b ++ z) (read-content c (byte_after p b) more)
     ∙ sym (append_assoc (byte_tells p.place p.reader b) (body_tells (byte_after p b) c)
-        (read_parts (between (cut (body_after (byte_after p b) c).reader)) more))
+    (read_parts (between (cut (body_after (byte_after p b) c).reader)) more))
 
 clean-content : (c : List ℕ) (p : Packeted) (more : List FramePart) → CleanBody p c →
     part_noted (body_after p c) FrameEnd ≡ false →
@@ -76,20 +76,25 @@ some-length n = grind (arith, nat_tests)
 
 read-frame : (h : ℕ) (c more : List ℕ) (r : Reader) → nat_lt h 128 ≡ false →
     read_parts (between r) (parts (frame (h ∷ c) ++ more)) ≡ body_tells (between r) c ++
-        read_parts (between (cut (body_after (between r) c).reader)) (parts more)
+    read_parts (between (cut (body_after (between r) c).reader)) (parts more)
 read-frame h c more r e =
     ap (read_parts (between r)) (parts-frame (h ∷ c) more)
     ∙ (ap (λ z. read_parts z (map FrameByte c ++ FrameEnd ∷ parts more)) (headed h r e) ∙
-        read-content c (between r) (parts more))
+    read-content c (between r) (parts more))
 
 clean-frame : (h : ℕ) (c more : List ℕ) (r : Reader) → nat_lt h 128 ≡ false → CleanBody (between r) c →
     part_noted (body_after (between r) c) FrameEnd ≡ false →
     CleanParts (between (cut (body_after (between r) c).reader)) (parts more) →
-        CleanParts (between r) (parts (frame (h ∷ c) ++ more))
+    CleanParts (between r) (parts (frame (h ∷ c) ++ more))
 clean-frame h c more r e a n k =
-    subst (CleanParts (between r)) (sym (parts-frame (h ∷ c) more))
-    (some-length (length c), (e, subst (λ z. CleanParts z (map FrameByte c ++ FrameEnd ∷ parts more))
-        (sym (headed h r e)) (clean-content c (between r) (parts more) a n k)))
+    subst (CleanParts (between r)) (sym (parts-frame (h ∷ c) more)) (
+      some-length (length c),
+      (
+        e,
+        subst (λ z. CleanParts z (map FrameByte c ++ FrameEnd ∷ parts more))
+            (sym (headed h r e)) (clean-content c (between r) (parts more) a n k),
+      ),
+    )
 
 -- What was read of the packet under way, from where it began.
 record Under (r0 : Reader) (before : List Spelled) (p : Place) : Type 0 where
@@ -123,7 +128,7 @@ under-more : (r0 : Reader) (before : List Spelled) (p : Place) (moment : ℕ) (m
 under-more r0 before p moment mark i su u =
     let x : Spelled = record { moment = moment; mark = mark } in
     let s : Spell u.reader u.runs (spelling before x) (running_of before) p mark =
-        spell moment u.runs (running_of before) u.reader p mark i u.meets su in
+    spell moment u.runs (running_of before) u.reader p mark i u.meets su in
     record {
       under = record {
         reader = s.reader2;
@@ -145,8 +150,14 @@ meets-broke None r m = m
 meets-broke (Some s) r m = absurd m
 
 under-broke : (r0 : Reader) (before : List Spelled) → Under r0 before Opened → Under r0 before Broke
-under-broke r0 before u = record { reader = u.reader; runs = u.runs; next = u.next; clean = u.clean; meets =
-    meets-broke (running_of before) u.reader u.meets }
+under-broke r0 before u = record {
+  reader = u.reader;
+  runs = u.runs;
+  next = u.next;
+  clean = u.clean;
+  meets =
+      meets-broke (running_of before) u.reader u.meets;
+}
 
 -- What is read of the packet under way and of bytes behind it.
 record ReadRest (r0 : Reader) (before : List Spelled) (bytes : List ℕ) (ms : List Sign) : Type 0 where
@@ -159,11 +170,11 @@ read-ended : (r0 : Reader) (y : Spelled) (before : List Spelled) (p : Place) (mo
     ReadRest (cut u.reader) [] more ms → ReadRest r0 (y ∷ before) (flushed (y ∷ before) ++ more) ms
 read-ended r0 y before p more ms u h =
     let high : nat_lt (header (y ∷ before)) 128 ≡ false = stamp-high
-        (upper_six (unwrap_or (first_stamp (y ∷ before)) (last_moment (y ∷ before)))) in
+    (upper_six (unwrap_or (first_stamp (y ∷ before)) (last_moment (y ∷ before)))) in
     record {
       told = read-frame (header (y ∷ before)) (content (y ∷ before)) more r0 high
           ∙ (ap (λ z. body_tells (between r0) (content (y ∷ before)) ++ read_parts (between (cut z.reader))
-              (parts more)) u.next
+          (parts more)) u.next
           ∙ ap (λ z. body_tells (between r0) (content (y ∷ before)) ++ z) h.told);
       clean = clean-frame (header (y ∷ before)) (content (y ∷ before)) more r0 high u.clean
           (ap (λ z. part_noted z FrameEnd) u.next ∙ (Meets-quiet (running_of (y ∷ before)) u.reader p u.meets).1)
@@ -190,21 +201,24 @@ read-end n r0 [] p u su = read-none r0 p (meets-start r0 p u)
 read-end n r0 (y ∷ before) p u su =
     subst (λ z. ReadRest r0 (y ∷ before) z (owed p)) (append-nil (flushed (y ∷ before)))
     (read-ended r0 y before p [] (owed p) u (read-none (cut u.reader) p (Meets-cut (running_of (y ∷ before)) u.reader p
-        u.meets)))
+    u.meets)))
 
 read-flush : (n : ℕ) (puts : List Put) → ReadsAll n puts → ReadsAll n (Flush ∷ puts)
 read-flush n puts ih r0 [] p u su = ih r0 [] p u su
 read-flush n puts ih r0 (y ∷ before) p u su =
     subst (λ z. ReadRest r0 (y ∷ before) z (late p (signs_in puts)))
-        (sym (append_assoc (flushed (y ∷ before)) (live_from n [] puts) (flushed (under_way_from n [] puts))))
+    (sym (append_assoc (flushed (y ∷ before)) (live_from n [] puts) (flushed (under_way_from n [] puts))))
     (read-ended r0 y before p (all_from n [] puts) (late p (signs_in puts)) u
     (ih (cut u.reader) [] p (under-new (cut u.reader) p (Meets-cut (running_of (y ∷ before)) u.reader p u.meets)) su))
 
 -- a mark that goes on in the packet, or begins one
 read-on : (n moment : ℕ) (mark : Sign) (puts : List Put) → is_abort mark ≡ false → ReadsAll n puts →
     (r0 : Reader) (before : List Spelled) (p : Place) → Under r0 before p →
-    Suit (is_opened p) (mark ∷ signs_in puts) → ReadRest r0 before (all_from n (record { moment = moment; mark =
-        mark } ∷ before) puts) (late p (mark ∷ signs_in puts))
+    Suit (is_opened p) (mark ∷ signs_in puts) → ReadRest r0 before (all_from n (record {
+      moment = moment;
+      mark =
+          mark;
+    } ∷ before) puts) (late p (mark ∷ signs_in puts))
 read-on n moment mark puts i ih r0 before p u su =
     let x : Spelled = record { moment = moment; mark = mark } in
     let m : More r0 before p moment mark = under-more r0 before p moment mark i su.0 u in
@@ -213,31 +227,34 @@ read-on n moment mark puts i ih r0 before p u su =
     record {
       told = h.told ∙ (ap (λ z. z ++ late (place_after p mark) (signs_in puts)) m.told
           ∙ append_assoc (body_tells (between r0) (content before)) (late_at p mark) (late (place_after p mark)
-              (signs_in puts)));
+          (signs_in puts)));
       clean = h.clean;
     }
 
 abbrev spelled_from : ℕ → List Spelled → Spelled → Bool → List Put → List ℕ
 spelled_from n before x c puts =
     ((if c then flushed before else []) ++ live_from n (if c then x ∷ [] else x ∷ before) puts) ++
-        flushed (under_way_from n (if c then x ∷ [] else x ∷ before) puts)
+    flushed (under_way_from n (if c then x ∷ [] else x ∷ before) puts)
 
 read-choice : (n moment : ℕ) (mark : Sign) (puts : List Put) → is_abort mark ≡ false → ReadsAll n puts →
     (r0 : Reader) (before : List Spelled) (p : Place) → Under r0 before p →
-    Suit (is_opened p) (mark ∷ signs_in puts) → (c : Bool) → written.ends n before (record { moment = moment; mark =
-        mark }) ≡ c →
+    Suit (is_opened p) (mark ∷ signs_in puts) → (c : Bool) → written.ends n before (record {
+      moment = moment;
+      mark =
+          mark;
+    }) ≡ c →
     ReadRest r0 before (spelled_from n before (record { moment = moment; mark = mark }) c puts)
-        (late p (mark ∷ signs_in puts))
+    (late p (mark ∷ signs_in puts))
 read-choice n moment mark puts i ih r0 before p u su false e = read-on n moment mark puts i ih r0 before p u su
 read-choice n moment mark puts i ih r0 [] p u su true e = absurd (false≢true e)
 read-choice n moment mark puts i ih r0 (y ∷ before) p u su true e =
     let x : Spelled = record { moment = moment; mark = mark } in
     subst (λ z. ReadRest r0 (y ∷ before) z (late p (mark ∷ signs_in puts)))
-        (sym (append_assoc (flushed (y ∷ before)) (live_from n (x ∷ []) puts)
-        (flushed (under_way_from n (x ∷ []) puts))))
+    (sym (append_assoc (flushed (y ∷ before)) (live_from n (x ∷ []) puts)
+    (flushed (under_way_from n (x ∷ []) puts))))
     (read-ended r0 y before p (all_from n (x ∷ []) puts) (late p (mark ∷ signs_in puts)) u
     (read-on n moment mark puts i ih (cut u.reader) [] p (under-new (cut u.reader) p
-        (Meets-cut (running_of (y ∷ before)) u.reader p u.meets)) su))
+    (Meets-cut (running_of (y ∷ before)) u.reader p u.meets)) su))
 
 read-spelled : (n moment : ℕ) (mark : Sign) (puts : List Put) → is_abort mark ≡ false → ReadsAll n puts →
     ReadsAll n (At moment mark ∷ puts)
@@ -271,7 +288,7 @@ read-written : (n : ℕ) (puts : List Put) → Suit false (signs_in puts) → Re
     (late Closed (signs_in puts))
 read-written n puts su =
     subst (λ z. ReadRest Rest [] z (late Closed (signs_in puts))) (sym (written-all n puts)) (reads-all n puts Rest []
-        Closed (under-new Rest Closed tt) su)
+    Closed (under-new Rest Closed tt) su)
 
 -- What is read of it: each abort late.
 pub written-late : (n : ℕ) (puts : List Put) → suited (signs_in puts) ≡ true → AreValid (signs_in puts) →
@@ -287,7 +304,7 @@ pub one_more : (n : ℕ) (puts : List Put) → suited (signs_in puts) ≡ true �
     length (signs_of (ble_reading (ble_written n puts))) ≤ length (signs_in puts) + 1
 one_more n puts s v =
     subst (λ xs. length xs ≤ length (signs_in puts) + 1) (sym (written-late n puts s v)) (length-late (signs_in puts)
-        (Suit-suited (signs_in puts) s v))
+    (Suit-suited (signs_in puts) s v))
 
 pub clean : (n : ℕ) (puts : List Put) → suited (signs_in puts) ≡ true → AreValid (signs_in puts) →
     notes_of (ble_reading (ble_written n puts)) ≡ []

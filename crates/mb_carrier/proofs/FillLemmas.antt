@@ -362,10 +362,10 @@ fill-left s t other moments moment apart at m reader reader_now writer writer_no
     kept is same f goes =
     let ps : List Put = puts ++ f.0 in
     let a = subst (λ (k : ℕ). FlowsMore s other moments moment apart k reader_now writer_now bytes left owes ps base
-        kept) is
+    kept) is
     (goes ps (flows-spec s t other moments moment reader writer bytes rest [] ps base held same f.2)) in
     let b = subst (λ (u : Spec). FlowsMore s u moments moment apart at reader_now writer_now bytes left owes ps base
-        kept) same a in (
+    kept) same a in (
       f.0 ++ b.0,
       all_at-both apart at f.0 b.0 f.1 b.1,
       subst (λ (qs : List Put). Flows s t moments moment reader_now writer_now bytes left owes qs base kept)
@@ -419,5 +419,14 @@ pub flows-handed : (s t : Spec) (moments : ℕ → ℕ) (moment : ℕ) (reader :
     Flows s t moments moment reader writer bytes rest owes puts base held →
     Flows s t moments moment reader writer bytes rest owes puts (base ++ held) []
 flows-handed s t moments moment reader writer bytes rest owes puts base held f =
-    record { taken = f.taken; cut = f.cut; told = f.told; reads = f.reads; front = f.front; told_are = f.told_are;
-        writes = f.writes; live_is = f.live_is ∙ sym (append-nil (base ++ held)); have = f.have }
+    record {
+      taken = f.taken;
+      cut = f.cut;
+      told = f.told;
+      reads = f.reads;
+      front = f.front;
+      told_are = f.told_are;
+      writes = f.writes;
+      live_is = f.live_is ∙ sym (append-nil (base ++ held));
+      have = f.have;
+    }

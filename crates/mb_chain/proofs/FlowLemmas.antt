@@ -65,8 +65,11 @@ way-handed : (s t : Spec) (moments at : ℕ → ℕ) (reader : Reader) (writer :
 way-handed s t moments at reader writer bytes (Some p) puts base held f =
     flows-handed s t moments p.moment reader writer bytes p.rest.now
     (puts_at (at p.moment) (signs_of_event p.ev)) puts base held f
-way-handed s t moments at reader writer bytes None puts base held f = record { stands = f.stands; puts_are = f.puts_are;
-    live_is = f.live_is ∙ sym (append-nil (base ++ held)) }
+way-handed s t moments at reader writer bytes None puts base held f = record {
+  stands = f.stands;
+  puts_are = f.puts_are;
+  live_is = f.live_is ∙ sym (append-nil (base ++ held));
+}
 
 -- what a hop in the midst of its input has written is written of all of it
 way-front : (s t : Spec) (moments at : ℕ → ℕ) (reader : Reader) (writer : Writer) (bytes : List ℕ)
@@ -113,8 +116,7 @@ way-one (l ∷ ls) s t moments at at_now reader reader_now writer writer_now apa
     (way-live s t moments at_now reader_now writer_now bytes left_now ps base held w))
 
 -- `before` was handed to the hop before, `piece` is; it handed on `handed` of it, and the taker took `given`. The
--- moments of what is
--- handed on are those that the whole of it will have.
+-- moments of what is handed on are those that the whole of it will have.
 pub record Driven (links : List Link) (l : Link) (moments at : ℕ → ℕ) (reader : Reader) (writer : Writer)
     (behind : (ℕ → ℕ) → List ℕ → Type 0) (wrote offset : ℕ) (piece : List ℕ) (left : Option Piece)
     (handed given before : List ℕ) : Type 0 where
@@ -383,9 +385,9 @@ way-goes s other t other_t at at_now reader reader_now writer writer_now apart m
     same_t none is goes =
     subst (λ (k : ℕ). GoesOn s t at at_now reader reader_now writer writer_now apart k left left_now held) (sym is)
     (subst (λ (u : Spec). GoesOn u t at at_now reader reader_now writer writer_now apart other_m left left_now held)
-        same
+    same
     (subst (λ (v : Spec). GoesOn other v at at_now reader reader_now writer writer_now apart other_m left left_now held)
-        same_t
+    same_t
     (subst (λ (xs : List ℕ). (moments : ℕ → ℕ) (bytes : List ℕ) (puts : List Put) (base : List ℕ) →
     OnItsWay other other_t moments at reader writer bytes left puts base xs →
     More apart other_m puts
@@ -464,8 +466,13 @@ pub none-fed : (links : List Link) (was now : List Hop) (moment : ℕ) (piece : 
 none-fed links was now moment piece took none empty t =
     subst (λ (ls : List Link). RowFed ls (RowStands was) (RowStands now) moment piece took) (sym none)
     (subst (λ (hs : List Hop). RowFed [] (RowStands was) (RowStands hs) moment piece took) (sym empty)
-    (record { given = piece; took_it = t; stands = λ moments bytes row have. tt; beyond = λ moments bytes row have.
-        refl }))
+    (record {
+      given = piece;
+      took_it = t;
+      stands = λ moments bytes row have. tt;
+      beyond = λ moments bytes row have.
+          refl;
+    }))
 
 pub none-halted : (links : List Link) (was : (ℕ → ℕ) → List ℕ → Type 0) (moment : ℕ) (piece : List ℕ)
     (took : List ℕ → Type 0) → links ≡ [] → ((front : List ℕ) × IsPart front piece × took front) →

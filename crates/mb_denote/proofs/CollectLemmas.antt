@@ -64,10 +64,10 @@ Stands_put c m ms suits h = record {
       sym (is_open-push ms m);
   items_hold = λ more.
       ap (items_from None) (append_assoc ms (m ∷ []) more) ∙ h.items_hold (m ∷ more) ∙ items_step c.items c.realtimes
-          c.ended c.open_data m more;
+      c.ended c.open_data m more;
   realtimes_hold = λ more.
       ap (realtimes_from false 0) (append_assoc ms (m ∷ []) more) ∙ h.realtimes_hold (m ∷ more) ∙
-          realtimes_step c.items c.realtimes c.ended c.open_data m more;
+      realtimes_step c.items c.realtimes c.ended c.open_data m more;
 }
 
 -- the end of the marks

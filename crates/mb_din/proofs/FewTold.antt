@@ -50,7 +50,7 @@ status_step-few p at b bs = by (b == 0xf7) (b == 0xf0) (b == 0xf6) ((b == 0xf4) 
     by : (ends starts tunes undefined : Bool) →
         Few (cond ends (step_of Idle (end_told p at ∷ [])) (cond starts (step_of InSysex (Marks OpenSign ∷ []))
         (cond tunes (step_of Idle (Marks (ShortSign 0xf6 0 0) ∷ []))
-            (cond undefined (step_of Idle (Notes at Undefined ∷ [])) (step_of (Begun b None at) []))))).told (b ∷ bs)
+        (cond undefined (step_of Idle (Notes at Undefined ∷ [])) (step_of (Begun b None at) []))))).told (b ∷ bs)
     by true starts tunes undefined = one-few (end_told p at) b bs
     by false true tunes undefined = omega arith
     by false false true undefined = omega arith
@@ -72,7 +72,7 @@ status_turn-few InSysex s b bs = early-few (b == 0xf7) s b bs
 first-few : (s : State) (b : ℕ) (bs : List ℕ) → Few (one s b bs).told (b ∷ bs)
 first-few s b bs =
     one-cases (λ t. Few t.told (b ∷ bs)) s b bs (λ _. data_turn-few s.progress s b bs)
-        (one-few (realtime_told s.offset b) b bs)
+    (one-few (realtime_told s.offset b) b bs)
     (status_turn-few s.progress s b bs)
 
 longer : (ts : List Told) (b : ℕ) (bs : List ℕ) → Few ts bs → Few ts (b ∷ bs)

@@ -98,8 +98,8 @@ one-frees s b bs = by (is_data b) (is_realtime b)
   where
     by : (da rt : Bool) →
         let z : Turn = if da then data_turn s.progress s b bs else
-            (if rt then passed s bs (record { progress = s.progress; told = realtime_told s.offset b ∷ [] }) else
-            status_turn (told_before s.progress b) s b bs) in
+        (if rt then passed s bs (record { progress = s.progress; told = realtime_told s.offset b ∷ [] }) else
+        status_turn (told_before s.progress b) s b bs) in
         Frees z.told z.behind.progress
     by true rt e = data_turn-frees s.progress s b bs e
     by false true e = absurd (false≢true (sym (realtime-quiet s.offset b) ∙ e))

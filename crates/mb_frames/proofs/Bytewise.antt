@@ -20,7 +20,7 @@ pub told-all : (bytes : List ℕ) (place : Place) (so_far : List FramePart) → 
     so_far ≡ parts bytes
 told-all bytes place so_far s none =
     sym (ap parts (sym (append-nil bytes)) ∙ (s.rest [] ∙ (ap (λ z. so_far ++ z) (nothing place none) ∙
-        append-nil so_far)))
+    append-nil so_far)))
 
 pub told-same : (bytes : List ℕ) (one other : Place) (so_far as_well : List FramePart) → Stands one bytes so_far →
     Stands other bytes as_well →
@@ -34,7 +34,7 @@ pub go-alike : (bytes : List ℕ) (one other : Place) (so_far as_well : List Fra
 go-alike bytes one other so_far as_well s t none no_other more =
     append_cancel_left so_far (from one more) (from other more)
     (sym (s.rest more) ∙ (t.rest more ∙ ap (λ z. z ++ from other more)
-        (sym (told-same bytes one other so_far as_well s t none no_other))))
+    (sym (told-same bytes one other so_far as_well s t none no_other))))
 
 pub new-stands : (place : Place) → place ≡ Between → Stands place [] []
 new-stands place e = subst (λ p. Stands p [] []) (sym e) (record { rest = parts-counted })
@@ -53,12 +53,12 @@ stands-on old new bytes taken so_far news step s = record {
 pub behind-length : (place : Place) (byte : ℕ) (bytes : List ℕ) (so_far : List FramePart) →
     ((left : ℕ) → place ≢ Within left) →
     Stands place bytes so_far → Stands (behind_length place byte) (bytes ++ byte ∷ []) (so_far ++
-        begun (length_ended place byte))
+    begun (length_ended place byte))
 behind-length Between byte bytes so_far outside s = stands-on Between (High byte) bytes (byte ∷ []) so_far [] (λ more.
     refl) s
 behind-length (High high) byte bytes so_far outside s =
     stands-on (High high) (Within (256 * high + byte)) bytes (byte ∷ []) so_far (FrameBegin (256 * high + byte) ∷ [])
-        (λ more. refl) s
+    (λ more. refl) s
 behind-length (Within left) byte bytes so_far outside s = absurd (outside left refl)
 
 pub behind-content : (old new : Place) (count : ℕ) → new ≡ Within (room_of old - count) → 0 < count →

@@ -95,8 +95,10 @@ piece_of m b bs = record { moment = m; bytes = b ∷ bs }
 abbrev step_by : (on : Bool) → Piece → TimedByte → List TimedByte → List ℕ
 step_by on p t ts =
     (if on then [] else written_piece p.moment p.bytes) ++
-    gathering (if on then record { moment = p.moment; bytes = p.bytes ++ t.byte ∷ [] } else record { moment = t.moment;
-        bytes = t.byte ∷ [] }) ts
+    gathering (if on then record { moment = p.moment; bytes = p.bytes ++ t.byte ∷ [] } else record {
+      moment = t.moment;
+      bytes = t.byte ∷ [];
+    }) ts
 
 gathering-front : (m b : ℕ) (bs : List ℕ) (ts : List TimedByte) →
     gathering (record { moment = m; bytes = b ∷ bs }) ts ≡ front m (b ∷ bs) (stretches ts)
@@ -105,20 +107,20 @@ gathering-front m b bs (t ∷ ts) = by (t.moment == m) refl (nat_lt (length (b �
     (gathering-front m b (bs ++ t.byte ∷ []) ts) (λ n. gathering-front n t.byte [] ts) where
       by : (same : Bool) → (t.moment == m) ≡ same → (room : Bool) → nat_lt (length (b ∷ bs)) 255 ≡ room →
           gathering (record { moment = m; bytes = b ∷ (bs ++ t.byte ∷ []) }) ts ≡ front m (b ∷ (bs ++ t.byte ∷ []))
-              (stretches ts) →
+          (stretches ts) →
           ((n : ℕ) → gathering (record { moment = n; bytes = t.byte ∷ [] }) ts ≡ front n (t.byte ∷ []) (stretches ts)) →
           step_by (same && room) (record { moment = m; bytes = b ∷ bs }) t ts ≡ front m (b ∷ bs)
-              (before t (stretches ts))
+          (before t (stretches ts))
       by true h true r on new =
           on ∙ sym (front-same m (b ∷ bs) t (stretches ts) [] (b ∷ (bs ++ t.byte ∷ [])) h (λ cs.
           ap (λ (z : Bool). flat_map (a_record m) (if z then pieces_from (b ∷ (bs ++ t.byte ∷ [])) cs else (b ∷ bs) ∷
-              pieces_from (t.byte ∷ []) cs)) r))
+          pieces_from (t.byte ∷ []) cs)) r))
       by true h false r on new =
           let e : t.moment ≡ m = same-number t.moment m h in
           ap (λ z. a_record m (b ∷ bs) ++ z) (new t.moment ∙ ap (λ n. front n (t.byte ∷ []) (stretches ts)) e) ∙
           sym (front-same m (b ∷ bs) t (stretches ts) (a_record m (b ∷ bs)) (t.byte ∷ []) h (λ cs.
           ap (λ (z : Bool). flat_map (a_record m) (if z then pieces_from (b ∷ (bs ++ t.byte ∷ [])) cs else (b ∷ bs) ∷
-              pieces_from (t.byte ∷ []) cs)) r))
+          pieces_from (t.byte ∷ []) cs)) r))
       by false h room r on new =
           ap (λ z. a_record m (b ∷ bs) ++ z) (new t.moment ∙ sym (records-before t (stretches ts))) ∙
           (ap (λ z. z ++ flat_map records (before t (stretches ts))) (sym (append-nil (a_record m (b ∷ bs)))) ∙
@@ -132,7 +134,7 @@ gathering-all (t ∷ ts) = by (t.moment == 0) refl where
   by true h =
       let e : 0 ≡ t.moment = sym (same-number t.moment 0 h) in
       ap (λ n. gathering (record { moment = n; bytes = t.byte ∷ [] }) ts) e ∙ (gathering-front t.moment t.byte [] ts ∙
-          sym (records-before t (stretches ts)))
+      sym (records-before t (stretches ts)))
   by false h = gathering-front t.moment t.byte [] ts ∙ sym (records-before t (stretches ts))
 
 pub Gathers-nothing : Gathers no_piece [] []

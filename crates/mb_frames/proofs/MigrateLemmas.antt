@@ -57,7 +57,7 @@ number-fits : (count : ℕ) (bs : List ℕ) → AreBytes bs → length bs ≡ co
 number-fits count bs a is =
     let less : number bs < 1 * most (length bs) = number-below bs 0 1 a (omega arith) in
     let same : 1 * most (length bs) ≡ most count = let e : most (length bs) ≡ most count = ap most is in
-        omega (arith, e) in
+    omega (arith, e) in
     subst (λ (z : ℕ). number bs < z) same less
 
 header-fits : (second : Bool) (hs : List ℕ) → AreBytes hs → length hs ≡ header_size second →
@@ -163,7 +163,7 @@ same-nothing (place.Broken f) second last track head is a = refl
 
 same-broken : (f : TapeFault) (second : Bool) (last track : ℕ) (head bs : List ℕ) →
     parts_from (remade (place.Broken f) second last track) (again (parts_from (at (place.Broken f) second last track
-        head) bs)) ≡
+    head) bs)) ≡
     parts_from (at (place.Broken f) second last track head) bs
 same-broken f second last track head bs =
     let none : parts_from (at (place.Broken f) second last track head) bs ≡ [] =
@@ -200,7 +200,7 @@ same-headed second last track hs bs a is same =
         let head : List ℕ = header true m h.track h.len in
         let read : header_of true head ≡ in_microseconds second h =
         header_is true m h.track h.len (microseconds-fit second h.moment fits.0 p.near) fits.1 (λ e.
-            absurd (true≢false e)) in
+        absurd (true≢false e)) in
         let begins : headed target head ≡ begun target (in_microseconds second h) None =
         ap (λ (x : RecordHeader). begun target x (header_fault true target.last x)) read ∙
         ap (begun target (in_microseconds second h)) (no-fault-in-microseconds second last h fits.0 p) in
@@ -211,7 +211,7 @@ same-headed second last track hs bs a is same =
 same-header : (second : Bool) (last track : ℕ) (head : List ℕ) (b : ℕ) (bs : List ℕ) → AreBytes head → b < 256 →
     Same bs →
     parts_from (remade place.Header second last track) (again (parts_from (at place.Header second last track head)
-        (b ∷ bs))) ≡
+    (b ∷ bs))) ≡
     parts_from (at place.Header second last track head) (b ∷ bs)
 same-header second last track head b bs a small same = by_length (length (head ++ b ∷ []) == header_size second) refl
   where
@@ -233,7 +233,7 @@ same-header second last track head b bs a small same = by_length (length (head +
         (same-headed second last track (head ++ b ∷ []) bs more (grind (arith, nat_tests)) same)
     by_length false e =
         subst Goal (sym (behind_is source head b false e)) (same place.Header second last track (head ++ b ∷ []) tt
-            more)
+        more)
 
 same-more : (b : ℕ) (bs : List ℕ) → b < 256 → Same bs → Same (b ∷ bs)
 same-more b bs small same place.Magic second last track head is a = absurd is
@@ -243,7 +243,7 @@ same-more b bs small same (place.Within zero) second last track head is a =
     ap (λ ps. parts_from (remade (place.Within 0) second last track) (again ps))
     (end_parts (at place.Header second last track head) (b ∷ bs)) ∙
     (end_parts (remade place.Header second last track) (again (parts_from (at place.Header second last track head)
-        (b ∷ bs))) ∙
+    (b ∷ bs))) ∙
     (ap (λ ps. RecordEnd ∷ ps) (same-header second last track head b bs a small same) ∙
     sym (end_parts (at place.Header second last track head) (b ∷ bs))))
 same-more b bs small same (place.Within (suc left)) second last track head is a =
@@ -274,7 +274,7 @@ which-magic m b t form fits =
   where
     by : (one two three first second : Bool) → (m == 0x4d) ≡ one → (b == 0x42) ≡ two → (t == 0x54) ≡ three →
         (form == 0x31) ≡ first → (form == 0x32) ≡ second → (one && (two && (three && ((first || second) && true)))) ≡
-            true →
+        true →
         (second : Bool) × IsMagic m b t form second
     by false two three first second m b t f g e = absurd (false≢true e)
     by true false three first second m b t f g e = absurd (false≢true e)
@@ -291,9 +291,9 @@ whole-magic : (bytes rest : List ℕ) → nat_le 4 (length bytes) ≡ true → a
     again (tape_parts bytes) ≡ rest → tape2 bytes ≡ magic true ++ rest
 whole-magic bytes rest long fits told =
     ap (λ (z : Bool). (if z && all_fit_magic 0 (take 4 bytes) then magic true else []) ++ again (tape_parts bytes))
-        long ∙
+    long ∙
     (ap (λ (z : Bool). (if z then magic true else []) ++ again (tape_parts bytes)) fits ∙
-        ap (λ z. magic true ++ z) told)
+    ap (λ z. magic true ++ z) told)
 
 unwhole : (bytes : List ℕ) → all_fit_magic 0 (take 4 bytes) ≡ false → tape_parts bytes ≡ [] → tape2 bytes ≡ []
 unwhole bytes misfits none =

@@ -106,7 +106,7 @@ content-reads t len bytes others rest = by_length (nat_lt (length bytes) len) re
               (within_parts len (inside t len) (take len bytes) (drop len bytes) 0 few ∙
               (ap (λ ps. map RecordByte (take len bytes) ++ ps) (end_parts (inside t len) (drop len bytes)) ∙
               (sym (append_assoc (map RecordByte (take len bytes)) (RecordEnd ∷ []) (parts_from (at_header t [])
-                  (drop len bytes))) ∙
+              (drop len bytes))) ∙
               ap (λ ps. (map RecordByte (take len bytes) ++ RecordEnd ∷ []) ++ ps) rest.parts)));
           ending =
               ap (ending_from (inside t len)) (sym joined) ∙
@@ -122,7 +122,7 @@ behind_header t h = record t { place = place.Header; head = []; last = h.moment;
 record-reads : (t : TapeState) (head bytes : List ℕ) (others : TapeRead) → length head ≡ header_size t.second →
     Reads (behind_header t (header_of t.second head)) (drop (header_of t.second head).len bytes) others →
     Reads (at_header t []) (head ++ bytes) (record_read t.second (header_fault t.second t.last
-        (header_of t.second head)) (header_of t.second head) bytes others)
+    (header_of t.second head)) (header_of t.second head) bytes others)
 record-reads t head bytes others is rest =
     let h : RecordHeader = header_of t.second head in
     by_fault h (header_fault t.second t.last h) refl rest
@@ -130,7 +130,7 @@ record-reads t head bytes others is rest =
     run : (f : Option TapeFault) (h : RecordHeader) → headed t head ≡ begun (at_header t []) h f →
         parts_from (at_header t []) (head ++ bytes) ≡
         begin_by (begun (at_header t []) h f).place (begun (at_header t []) h f) ++
-            parts_from (begun (at_header t []) h f) bytes
+        parts_from (begun (at_header t []) h f) bytes
     run f h e = run_of t head bytes is ∙ ap (λ (z : TapeState). begin_by z.place z ++ parts_from z bytes) e
 
     end : (f : Option TapeFault) (h : RecordHeader) → headed t head ≡ begun (at_header t []) h f →
@@ -139,7 +139,7 @@ record-reads t head bytes others is rest =
 
     by_fault : (h : RecordHeader) (f : Option TapeFault) → headed t head ≡ begun (at_header t []) h f →
         Reads (behind_header t h) (drop h.len bytes) others → Reads (at_header t []) (head ++ bytes)
-            (record_read t.second f h bytes others)
+        (record_read t.second f h bytes others)
     by_fault h (Some f) e rest =
         let stays = broken-reads f (at_header t []) bytes in
         record { parts = run (Some f) h e ∙ stays.parts; ending = end (Some f) h e ∙ stays.ending }
@@ -175,7 +175,7 @@ records-reads (suc most) second last track (b ∷ bs) few =
     read_by short =
         if short then nothing Inside
         else record_read second (header_fault second last h) h behind_it (records_read most second h.moment
-            (drop h.len behind_it))
+        (drop h.len behind_it))
 
     at_least : (second : Bool) → 1 ≤ header_size second
     at_least true = omega arith
@@ -185,7 +185,7 @@ records-reads (suc most) second last track (b ∷ bs) few =
     Others =
         length (drop h.len behind_it) ≤ most →
         Reads (between second h.moment h.track) (drop h.len behind_it) (records_read most second h.moment
-            (drop h.len behind_it))
+        (drop h.len behind_it))
 
     by_length : (short : Bool) → nat_lt (length (b ∷ bs)) size ≡ short → Others →
         Reads (between second last track) (b ∷ bs) (read_by short)
@@ -232,10 +232,10 @@ magic_step left at head is inner next (b ∷ bs) = by (fits_magic at b) refl
   where
     by : (fits : Bool) → fits_magic at b ≡ fits → Reads (in_magic head) (b ∷ bs)
         (if fits && all_fit_magic (suc at) (take (suc left) bs) then form_read (drop left bs) else
-            nothing (Faulty fault.Magic))
+        nothing (Faulty fault.Magic))
     by true f =
         let e : tape_behind (in_magic head) b ≡ in_magic (head ++ b ∷ []) = behind_in_magic true false at head b is f
-            inner in
+        inner in
         let n = next b bs in
         record {
           parts = ap (λ (z : TapeState). parts_from z bs) e ∙ n.parts;
@@ -257,7 +257,7 @@ magic_last head is (b ∷ bs) = by (fits_magic 3 b) refl
         (if fits && true then form_read (b ∷ bs) else nothing (Faulty fault.Magic))
     by true f =
         let e : tape_behind (in_magic head) b ≡ between (b == 0x32) 0 0 = behind_in_magic true true 3 head b is f
-            refl in
+        refl in
         let n = records-reads (length bs) (b == 0x32) 0 0 bs (omega arith) in
         record {
           parts = ap (λ (z : TapeState). parts_from z bs) e ∙ n.parts;

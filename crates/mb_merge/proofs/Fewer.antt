@@ -34,7 +34,7 @@ fewer-head m source (Some hd) below is =
     let split = head_list (link_of m source).held hd is in
     let before : length (link_of m source).held ≡ length split.0 + 1 = ap length split.1 ∙ omega arith in
     let after : length (after_head (link_of m source) hd.mark).held ≡ length split.0 =
-        ap (λ z. length (drop 1 z)) split.1 in
+    ap (λ z. length (drop 1 z)) split.1 in
     omega (arith, held-set m.links source (after_head (link_of m source) hd.mark) below, before, after)
 
 fewer-held : (m : Merger) (best : Option Head) → IsLeast m.links best → Fewer (held_passes m best).0 (to_pass m)

@@ -42,8 +42,10 @@ Suit open_now (m ∷ ms) last = (suits_sign open_now (sign_of m) ≡ true) × Su
 
 pub Suit-append : (open_now last : Bool) (ms : List Mark) (m : Mark) → Suit open_now ms last →
     suits_sign last (sign_of m) ≡ true → Suit open_now (ms ++ m ∷ []) (opens last m)
-Suit-append open_now last [] m same suits = (subst (λ z. suits_sign z (sign_of m) ≡ true) (sym same) suits,
-    ap (λ z. opens z m) same)
+Suit-append open_now last [] m same suits = (
+  subst (λ z. suits_sign z (sign_of m) ≡ true) (sym same) suits,
+  ap (λ z. opens z m) same,
+)
 Suit-append open_now last (n ∷ ns) m h suits = (h.0, Suit-append (opens open_now n) last ns m h.1 suits)
 
 -- no real-time mark is held
@@ -95,20 +97,20 @@ not_owned-free links source none = record {
   by_value i below apart opened false is = refl
   by_value i below apart opened true is =
       let owned : owns (link_at links i) (link_at links source) ≡ true =
-          ap (λ z. z && share (link_at links i).outs (link_at links source).outs) opened ∙ is in
+      ap (λ z. z && share (link_at links i).outs (link_at links source).outs) opened ∙ is in
       absurd (not_true (sym (is_owned_below-hit links source i (length links) below (takes_from_is links source i apart
-          owned)) ∙ none))
+      owned)) ∙ none))
 
 -- Links that keep their outs; only one that was open before, or finds its outs free, is open.
 pub exclusive-set : (links : List Link) (source : ℕ) (link : Link) → source < length links →
     link.outs ≡ (link_at links source).outs →
     (link.is_open ≡ true → ((link_at links source).is_open ≡ true) ⊎ IsFree links source) → IsExclusive links →
-        IsExclusive (slice_set links source link)
+    IsExclusive (slice_set links source link)
 exclusive-set links source link below outs opening ex = record {
   apart = λ i j i_below j_below different i_open j_open.
       both i j (subst (λ n. i < n) (length-links links source link) i_below)
-          (subst (λ n. j < n) (length-links links source link) j_below) different i_open j_open (same_or_not i source)
-          (same_or_not j source);
+      (subst (λ n. j < n) (length-links links source link) j_below) different i_open j_open (same_or_not i source)
+      (same_or_not j source);
 } where
   with_other : (j : ℕ) → j < length links → j ≢ source → link.is_open ≡ true → (link_at links j).is_open ≡ true →
       share link.outs (link_at links j).outs ≡ false
@@ -122,38 +124,38 @@ exclusive-set links source link below outs opening ex = record {
 
   both : (i j : ℕ) → i < length links → j < length links → i ≢ j →
       (link_at (slice_set links source link) i).is_open ≡ true → (link_at (slice_set links source link) j).is_open ≡
-          true →
+      true →
       (i ≡ source) ⊎ (i ≢ source) → (j ≡ source) ⊎ (j ≢ source) →
       share (link_at (slice_set links source link) i).outs (link_at (slice_set links source link) j).outs ≡ false
   both i j i_below j_below different i_open j_open (inl here) (inl there) = absurd (different (here ∙ sym there))
   both i j i_below j_below different i_open j_open (inl here) (inr elsewhere) =
       let at_i : link_at (slice_set links source link) i ≡ link = subst (λ k. link_at (slice_set links source link) k ≡
-          link) (sym here) (link_at-set_same links source link below) in
+      link) (sym here) (link_at-set_same links source link below) in
       let at_j : link_at (slice_set links source link) j ≡ link_at links j = link_at-set_other links source j link
-          elsewhere in
+      elsewhere in
       ap (λ z. share z.outs (link_at (slice_set links source link) j).outs) at_i ∙
       (ap (λ z. share link.outs z.outs) at_j ∙
       with_other j j_below elsewhere (sym (ap (λ z. z.is_open) at_i) ∙ i_open) (sym (ap (λ z. z.is_open) at_j) ∙
-          j_open))
+      j_open))
   both i j i_below j_below different i_open j_open (inr elsewhere) (inl there) =
       let at_j : link_at (slice_set links source link) j ≡ link = subst (λ k. link_at (slice_set links source link) k ≡
-          link) (sym there) (link_at-set_same links source link below) in
+      link) (sym there) (link_at-set_same links source link below) in
       let at_i : link_at (slice_set links source link) i ≡ link_at links i = link_at-set_other links source i link
-          elsewhere in
+      elsewhere in
       ap (λ z. share (link_at (slice_set links source link) i).outs z.outs) at_j ∙
       (ap (λ z. share z.outs link.outs) at_i ∙
       (share_comm (link_at links i).outs link.outs ∙
       with_other i i_below elsewhere (sym (ap (λ z. z.is_open) at_j) ∙ j_open) (sym (ap (λ z. z.is_open) at_i) ∙
-          i_open)))
+      i_open)))
   both i j i_below j_below different i_open j_open (inr one_place) (inr other_place) =
       let at_i : link_at (slice_set links source link) i ≡ link_at links i = link_at-set_other links source i link
-          one_place in
+      one_place in
       let at_j : link_at (slice_set links source link) j ≡ link_at links j = link_at-set_other links source j link
-          other_place in
+      other_place in
       ap (λ z. share z.outs (link_at (slice_set links source link) j).outs) at_i ∙
       (ap (λ z. share (link_at links i).outs z.outs) at_j ∙
       ex.apart i j i_below j_below different (sym (ap (λ z. z.is_open) at_i) ∙ i_open) (sym (ap (λ z. z.is_open) at_j) ∙
-          j_open))
+      j_open))
 
 -- Links of which the outs and what is open are as before.
 pub record Alike (old new : List Link) : Type 0 where
@@ -175,7 +177,7 @@ alike-set links source link below outs opened = record {
       P (link_at (slice_set links source link) i)
   by_place P i (inl same) mine other =
       subst P (sym (subst (λ k. link_at (slice_set links source link) k ≡ link) (sym same)
-          (link_at-set_same links source link below))) (mine same)
+      (link_at-set_same links source link below))) (mine same)
   by_place P i (inr apart) mine other = subst P (sym (link_at-set_other links source i link apart)) other
 
 pub IsFree-alike : (old new : List Link) (source : ℕ) → Alike old new → IsFree old source → IsFree new source
@@ -192,5 +194,5 @@ IsExclusive-alike old new like ex = record {
       ap (λ z. share z (link_at new j).outs) (like.outs i) ∙
       (ap (λ z. share (link_at old i).outs z) (like.outs j) ∙
       ex.apart i j (subst (λ n. i < n) like.len i_below) (subst (λ n. j < n) like.len j_below) different
-          (sym (like.opened i) ∙ i_open) (sym (like.opened j) ∙ j_open));
+      (sym (like.opened i) ∙ i_open) (sym (like.opened j) ∙ j_open));
 }

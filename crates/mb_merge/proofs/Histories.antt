@@ -44,7 +44,7 @@ turn-own : (p : Passed) (source : ℕ) (rt : Bool) → p.source ≡ source → i
     filter (in_turn source) (p ∷ []) ≡ kept (not rt) p
 turn-own p source rt here is =
     filter-one (in_turn source) p (not rt) (ap (λ t. t && not (is_realtime_mark p.mark)) (same_number p.source source
-        here) ∙ ap not is)
+    here) ∙ ap not is)
 
 once-own : (p : Passed) (source : ℕ) (rt : Bool) → p.source ≡ source → is_realtime_mark p.mark ≡ rt →
     filter (at_once source) (p ∷ []) ≡ kept rt p
@@ -54,7 +54,7 @@ once-own p source rt here is =
 turn-other : (p : Passed) (source : ℕ) → p.source ≢ source → filter (in_turn source) (p ∷ []) ≡ []
 turn-other p source apart =
     filter-one (in_turn source) p false (ap (λ t. t && not (is_realtime_mark p.mark)) (other_number p.source source
-        apart))
+    apart))
 
 once-other : (p : Passed) (source : ℕ) → p.source ≢ source → filter (at_once source) (p ∷ []) ≡ []
 once-other p source apart =
@@ -74,27 +74,27 @@ taken_mark source moment mk = record { source = source; arrival = moment; mark =
 
 waiting-own : (source moment : ℕ) (mk : Mark) (links : List Link) (link : Link) (passes : Bool) →
     (passes ≡ true → (is_realtime_mark mk ≡ true) ⊎ Passes links source mk link) →
-        (passes ≡ false → is_realtime_mark mk ≡ false) →
+    (passes ≡ false → is_realtime_mark mk ≡ false) →
     map (waits source) link.held ++ filter (in_turn source) (taken_mark source moment mk ∷ []) ≡
     filter (in_turn source) (one (offered_mark passes source moment mk)) ++
-        map (waits source) (taken link passes moment mk).held
+    map (waits source) (taken link passes moment mk).held
 waiting-own source moment mk links link true why not_rt = by_case (why refl) where
   by_case : (is_realtime_mark mk ≡ true) ⊎ Passes links source mk link →
       map (waits source) link.held ++ filter (in_turn source) (taken_mark source moment mk ∷ []) ≡
       filter (in_turn source) (taken_mark source moment mk ∷ []) ++ map (waits source) link.held
   by_case (inl rt) =
       let none : filter (in_turn source) (taken_mark source moment mk ∷ []) ≡ [] =
-          turn-own (taken_mark source moment mk) source true refl rt in
+      turn-own (taken_mark source moment mk) source true refl rt in
       ap (λ z. map (waits source) link.held ++ z) none ∙ (append-nil (map (waits source) link.held) ∙
-          sym (ap (λ z. z ++ map (waits source) link.held) none))
+      sym (ap (λ z. z ++ map (waits source) link.held) none))
   by_case (inr passes) =
       let none : map (waits source) link.held ≡ [] = ap (map (waits source)) passes.nothing in
       ap (λ z. z ++ filter (in_turn source) (taken_mark source moment mk ∷ [])) none ∙
       sym (ap (λ z. filter (in_turn source) (taken_mark source moment mk ∷ []) ++ z) none ∙
-          append-nil (filter (in_turn source) (taken_mark source moment mk ∷ [])))
+      append-nil (filter (in_turn source) (taken_mark source moment mk ∷ [])))
 waiting-own source moment mk links link false why not_rt =
     ap (λ z. map (waits source) link.held ++ z) (turn-own (taken_mark source moment mk) source false refl (not_rt refl))
-        ∙
+    ∙
     sym (map-append (waits source) link.held ((record { arrival = moment; mark = mk }) ∷ []))
 
 offered-other : (source moment : ℕ) (mk : Mark) (passes : Bool) (other : ℕ) → other ≢ source →
@@ -105,31 +105,31 @@ offered-other source moment mk false other apart = refl
 waiting-offer : (m : Merger) (source moment : ℕ) (mk : Mark) (passes : Bool) (other : ℕ) → passes_now m source mk ≡
     passes → source < length m.links →
     map (waits other) (link_of m other).held ++ filter (in_turn other) (taken_mark source moment mk ∷ []) ≡
-        waiting (offer_at m source moment mk passes) other
+    waiting (offer_at m source moment mk passes) other
 waiting-offer m source moment mk passes other is below = by_place (same_or_not other source) where
   by_place : (other ≡ source) ⊎ (other ≢ source) →
       map (waits other) (link_of m other).held ++ filter (in_turn other) (taken_mark source moment mk ∷ []) ≡
-          waiting (offer_at m source moment mk passes) other
+      waiting (offer_at m source moment mk passes) other
   by_place (inl same) =
       subst (λ k. map (waits k) (link_of m k).held ++ filter (in_turn k) (taken_mark source moment mk ∷ []) ≡
-          waiting (offer_at m source moment mk passes) k) (sym same)
+      waiting (offer_at m source moment mk passes) k) (sym same)
       (waiting-own source moment mk m.links (link_of m source) passes (λ h. passes-why m source mk (is ∙ h)) (λ h.
-          waits-why m source mk (is ∙ h)) ∙
+      waits-why m source mk (is ∙ h)) ∙
       ap (λ l. filter (in_turn source) (one (offered_mark passes source moment mk)) ++ map (waits source) l.held)
       (sym (link_at-set_same m.links source (taken (link_of m source) passes moment mk) below)))
   by_place (inr apart) =
       ap (λ z. map (waits other) (link_of m other).held ++ z) (turn-other (taken_mark source moment mk) other (λ e.
-          apart (sym e))) ∙
+      apart (sym e))) ∙
       (append-nil (map (waits other) (link_of m other).held) ∙
       (ap (λ l. map (waits other) l.held) (sym (link_at-set_other m.links source other (taken (link_of m source) passes
-          moment mk) apart)) ∙
+      moment mk) apart)) ∙
       ap (λ z. z ++ map (waits other) (link_at (slice_set m.links source (taken (link_of m source) passes moment mk))
-          other).held) (sym (offered-other source moment mk passes other apart))))
+      other).held) (sym (offered-other source moment mk passes other apart))))
 
 once-offer : (source moment : ℕ) (mk : Mark) (passes : Bool) (other : ℕ) →
     (passes ≡ false → is_realtime_mark mk ≡ false) →
     filter (at_once other) (taken_mark source moment mk ∷ []) ≡ filter (at_once other)
-        (one (offered_mark passes source moment mk))
+    (one (offered_mark passes source moment mk))
 once-offer source moment mk true other not_rt = refl
 once-offer source moment mk false other not_rt = by_place (same_or_not other source) where
   by_place : (other ≡ source) ⊎ (other ≢ source) → filter (at_once other) (taken_mark source moment mk ∷ []) ≡ []
@@ -139,24 +139,28 @@ once-offer source moment mk false other not_rt = by_place (same_or_not other sou
 keeps-offer : (h : History) (source moment : ℕ) (mk : Mark) (passes : Bool) → passes_now h.now source mk ≡ passes →
     source < length h.now.links →
     suits_sign (link_of h.now source).in_sysex (sign_of mk) ≡ true → h.now.offered ≡ None → Keeps h →
-    Keeps (record { taken = h.taken ++ taken_mark source moment mk ∷ []; passed = h.passed; now =
-        offer_at h.now source moment mk passes })
+    Keeps (record {
+      taken = h.taken ++ taken_mark source moment mk ∷ [];
+      passed = h.passed;
+      now =
+          offer_at h.now source moment mk passes;
+    })
 keeps-offer h source moment mk passes is below suits nothing k = record {
   fits = fits-offer h.now source moment mk passes is k.fits below suits nothing;
   turns = λ other.
       filter-append (in_turn other) h.taken (taken_mark source moment mk ∷ []) ∙
       (ap (λ z. z ++ filter (in_turn other) (taken_mark source moment mk ∷ [])) (k.turns other) ∙
       (append_assoc (filter (in_turn other) h.passed) (waiting h.now other)
-          (filter (in_turn other) (taken_mark source moment mk ∷ [])) ∙
+      (filter (in_turn other) (taken_mark source moment mk ∷ [])) ∙
       ap (λ z. filter (in_turn other) h.passed ++ z)
       (ap (λ o. filter (in_turn other) (one o) ++ map (waits other) (link_of h.now other).held ++
-          filter (in_turn other) (taken_mark source moment mk ∷ [])) nothing ∙
+      filter (in_turn other) (taken_mark source moment mk ∷ [])) nothing ∙
       waiting-offer h.now source moment mk passes other is below)));
   realtimes = λ other.
       filter-append (at_once other) h.taken (taken_mark source moment mk ∷ []) ∙
       (ap (λ z. z ++ filter (at_once other) (taken_mark source moment mk ∷ [])) (k.realtimes other) ∙
       (append_assoc (filter (at_once other) h.passed) (filter (at_once other) (one h.now.offered))
-          (filter (at_once other) (taken_mark source moment mk ∷ [])) ∙
+      (filter (at_once other) (taken_mark source moment mk ∷ [])) ∙
       ap (λ z. filter (at_once other) h.passed ++ z)
       (ap (λ o. filter (at_once other) (one o) ++ filter (at_once other) (taken_mark source moment mk ∷ [])) nothing ∙
       once-offer source moment mk passes other (λ e. waits-why h.now source mk (is ∙ e)))));
@@ -181,18 +185,18 @@ keeps-offered h p is k = record {
   turns = λ other.
       k.turns other ∙
       (ap (λ o. filter (in_turn other) h.passed ++ (filter (in_turn other) (one o) ++
-          map (waits other) (link_of h.now other).held)) is ∙
+      map (waits other) (link_of h.now other).held)) is ∙
       (sym (append_assoc (filter (in_turn other) h.passed) (filter (in_turn other) (p ∷ []))
-          (map (waits other) (link_of h.now other).held)) ∙
+      (map (waits other) (link_of h.now other).held)) ∙
       (ap (λ z. z ++ map (waits other) (link_of h.now other).held)
-          (sym (filter-append (in_turn other) h.passed (p ∷ []))) ∙
+      (sym (filter-append (in_turn other) h.passed (p ∷ []))) ∙
       ap (λ z. filter (in_turn other) (h.passed ++ p ∷ []) ++ map (waits other) z)
-          (sym (held-pass h.now p other below)))));
+      (sym (held-pass h.now p other below)))));
   realtimes = λ other.
       k.realtimes other ∙
       (ap (λ o. filter (at_once other) h.passed ++ filter (at_once other) (one o)) is ∙
       (sym (filter-append (at_once other) h.passed (p ∷ [])) ∙
-          sym (append-nil (filter (at_once other) (h.passed ++ p ∷ [])))));
+      sym (append-nil (filter (at_once other) (h.passed ++ p ∷ [])))));
 } where
   below : p.source < length h.now.links
   below = subst (HasSource h.now.links) is k.fits.source
@@ -203,26 +207,26 @@ waiting-head : (m : Merger) (source : ℕ) (hd : Held) (hs : List Held) (other :
     (link_of m source).held ≡ hd ∷ hs → is_realtime_mark hd.mark ≡ false →
     map (waits other) (link_of m other).held ≡
     filter (in_turn other) (waits source hd ∷ []) ++ map (waits other)
-        (link_of (with_link m source (after_head (link_of m source) hd.mark)) other).held
+    (link_of (with_link m source (after_head (link_of m source) hd.mark)) other).held
 waiting-head m source hd hs other below is not_rt = by_place (same_or_not other source) where
   by_place : (other ≡ source) ⊎ (other ≢ source) →
       map (waits other) (link_of m other).held ≡
       filter (in_turn other) (waits source hd ∷ []) ++ map (waits other)
-          (link_of (with_link m source (after_head (link_of m source) hd.mark)) other).held
+      (link_of (with_link m source (after_head (link_of m source) hd.mark)) other).held
   by_place (inl same) =
       subst (λ k. map (waits k) (link_of m k).held ≡ filter (in_turn k) (waits source hd ∷ []) ++
-          map (waits k) (link_of (with_link m source (after_head (link_of m source) hd.mark)) k).held) (sym same)
+      map (waits k) (link_of (with_link m source (after_head (link_of m source) hd.mark)) k).held) (sym same)
       (ap (map (waits source)) is ∙
       sym (ap (λ z. z ++ map (waits source) (link_of (with_link m source (after_head (link_of m source) hd.mark))
-          source).held) (turn-own (waits source hd) source false refl not_rt) ∙
+      source).held) (turn-own (waits source hd) source false refl not_rt) ∙
       (ap (λ l. waits source hd ∷ map (waits source) l.held) (link_at-set_same m.links source
-          (after_head (link_of m source) hd.mark) below) ∙
+      (after_head (link_of m source) hd.mark) below) ∙
       ap (λ z. waits source hd ∷ map (waits source) (drop 1 z)) is)))
   by_place (inr apart) =
       ap (λ l. map (waits other) l.held) (sym (link_at-set_other m.links source other (after_head (link_of m source)
-          hd.mark) apart)) ∙
+      hd.mark) apart)) ∙
       ap (λ z. z ++ map (waits other) (link_of (with_link m source (after_head (link_of m source) hd.mark)) other).held)
-          (sym (turn-other (waits source hd) other (λ e. apart (sym e))))
+      (sym (turn-other (waits source hd) other (λ e. apart (sym e))))
 
 once-head : (source : ℕ) (hd : Held) (other : ℕ) → is_realtime_mark hd.mark ≡ false →
     filter (at_once other) (waits source hd ∷ []) ≡ []
@@ -234,27 +238,31 @@ once-head source hd other not_rt = by_place (same_or_not other source) where
 keeps-head : (h : History) (source : ℕ) (hd : Held) (hs : List Held) → h.now.offered ≡ None →
     source < length h.now.links → (link_of h.now source).held ≡ hd ∷ hs →
     may_pass h.now.links source hd.mark ≡ true → (h.now.draining ≡ false → ⊥) → Keeps h →
-    Keeps (record { taken = h.taken; passed = h.passed ++ waits source hd ∷ []; now =
-        with_link h.now source (after_head (link_of h.now source) hd.mark) })
+    Keeps (record {
+      taken = h.taken;
+      passed = h.passed ++ waits source hd ∷ [];
+      now =
+          with_link h.now source (after_head (link_of h.now source) hd.mark);
+    })
 keeps-head h source hd hs nothing below is may busy k = record {
   fits = fits-head h.now source hd hs nothing below is may busy k.fits;
   turns = λ other.
       k.turns other ∙
       (ap (λ z. filter (in_turn other) h.passed ++ (filter (in_turn other) (one h.now.offered) ++ z))
-          (waiting-head h.now source hd hs other below is not_rt) ∙
+      (waiting-head h.now source hd hs other below is not_rt) ∙
       (ap (λ o. filter (in_turn other) h.passed ++ (filter (in_turn other) (one o) ++
-          (filter (in_turn other) (waits source hd ∷ []) ++ rest other))) nothing ∙
+      (filter (in_turn other) (waits source hd ∷ []) ++ rest other))) nothing ∙
       (sym (append_assoc (filter (in_turn other) h.passed) (filter (in_turn other) (waits source hd ∷ [])) (rest other))
-          ∙
+      ∙
       (ap (λ z. z ++ rest other) (sym (filter-append (in_turn other) h.passed (waits source hd ∷ []))) ∙
       ap (λ o. filter (in_turn other) (h.passed ++ waits source hd ∷ []) ++ (filter (in_turn other) (one o) ++
-          rest other)) (sym nothing)))));
+      rest other)) (sym nothing)))));
   realtimes = λ other.
       k.realtimes other ∙
       ap (λ z. z ++ filter (at_once other) (one h.now.offered))
       (sym (filter-append (at_once other) h.passed (waits source hd ∷ []) ∙
       (ap (λ z. filter (at_once other) h.passed ++ z) (once-head source hd other not_rt) ∙
-          append-nil (filter (at_once other) h.passed))));
+      append-nil (filter (at_once other) h.passed))));
 } where
   not_rt : is_realtime_mark hd.mark ≡ false
   not_rt =
@@ -300,7 +308,7 @@ keeps-best : (h : History) (best : Head) → h.now.offered ≡ None → least h.
     Keeps (passed_in h (held_passes h.now (Some best)))
 keeps-best h best nothing is k =
     by_head (slice_get (link_of h.now best.source).held 0) refl (subst (IsLeast h.now.links) is
-        (least-IsLeast h.now.links)) where
+    (least-IsLeast h.now.links)) where
       by_head : (o : Option Held) → slice_get (link_of h.now best.source).held 0 ≡ o → IsLeast h.now.links (Some best) →
           Keeps (passed_in h (head_passes h.now best.source o))
       by_head None head_is first =
@@ -340,7 +348,7 @@ pub offer_source : (m : Merger) (source moment : ℕ) (mk : Mark) → may_offer 
 offer_source m source moment mk may =
     below-true source (length m.links)
     (both (nat_lt source (length m.links)) (suits_sign (link_of m source).in_sysex (sign_of mk) &&
-        (nat_le (link_of m source).last moment && (not m.draining && has_room m source mk))) may).0
+    (nat_le (link_of m source).last moment && (not m.draining && has_room m source mk))) may).0
 
 pub keeps-call : (h : History) (call : Call) → Keeps h → Keeps (after_call h call)
 keeps-call h Next k = keeps-next h h.now.offered refl k
@@ -348,14 +356,14 @@ keeps-call h (Offer source moment mk) k = by_test (may_offer h.now source moment
   offered : may_offer h.now source moment mk ≡ true → Keeps (taken_in h source moment mk)
   offered may =
       let first = both (nat_lt source (length h.now.links)) (suits_sign (link_of h.now source).in_sysex (sign_of mk) &&
-          (nat_le (link_of h.now source).last moment && (not h.now.draining && has_room h.now source mk))) may in
+      (nat_le (link_of h.now source).last moment && (not h.now.draining && has_room h.now source mk))) may in
       let second = both (suits_sign (link_of h.now source).in_sysex (sign_of mk)) (nat_le (link_of h.now source).last
-          moment && (not h.now.draining && has_room h.now source mk)) first.1 in
+      moment && (not h.now.draining && has_room h.now source mk)) first.1 in
       let third = both (nat_le (link_of h.now source).last moment) (not h.now.draining && has_room h.now source mk)
-          second.1 in
+      second.1 in
       let fourth = both (not h.now.draining) (has_room h.now source mk) third.1 in
       keeps-offer h source moment mk (passes_now h.now source mk) refl (below-true source (length h.now.links) first.0)
-          second.0
+      second.0
       (k.fits.quiet (not-true h.now.draining fourth.0)).0 k
 
   by_test : (may : Bool) → may_offer h.now source moment mk ≡ may → Keeps (if may then taken_in h source moment mk else
@@ -378,10 +386,15 @@ keeps-begins m fresh = record {
     });
     source = subst (HasSource m.links) (sym fresh.nothing) tt;
     free = λ p offered not_rt. absurd (none-some p (sym fresh.nothing ∙ offered));
-    exclusive = record { apart = λ i j i_below j_below different i_open j_open.
-        absurd (not_true (sym i_open ∙ (fresh.closed i).not_open)) };
-    quiet = λ h. (fresh.nothing, least_below-none m.links (length m.links) (λ source below.
-        (fresh.closed source).nothing));
+    exclusive = record {
+      apart = λ i j i_below j_below different i_open j_open.
+          absurd (not_true (sym i_open ∙ (fresh.closed i).not_open));
+    };
+    quiet = λ h. (
+      fresh.nothing,
+      least_below-none m.links (length m.links) (λ source below.
+          (fresh.closed source).nothing),
+    );
   };
   turns = λ source. sym
       (ap (λ o. filter (in_turn source) (one o) ++ map (waits source) (link_of m source).held) fresh.nothing ∙
@@ -400,10 +413,14 @@ waits-other : (links : List Link) (source : ℕ) (mk : Mark) → is_realtime_mar
     suits_sign (link_at links source).is_open (sign_of mk) ≡ true → may_pass links source mk ≡ false →
     (is_owned links source ≡ true) × ((link_at links source).is_open ≡ false)
 waits-other links source (mark.Rt r) not_rt suits may = absurd (not_true not_rt)
-waits-other links source (mark.Short s) not_rt suits may = (not-false (is_owned links source) may,
-    not-true (link_at links source).is_open suits)
-waits-other links source mark.Open not_rt suits may = (not-false (is_owned links source) may,
-    not-true (link_at links source).is_open suits)
+waits-other links source (mark.Short s) not_rt suits may = (
+  not-false (is_owned links source) may,
+  not-true (link_at links source).is_open suits,
+)
+waits-other links source mark.Open not_rt suits may = (
+  not-false (is_owned links source) may,
+  not-true (link_at links source).is_open suits,
+)
 waits-other links source (mark.Byte b) not_rt suits may = absurd
     (not_true (sym (both (link_at links source).is_open (is_data b) suits).0 ∙ may))
 waits-other links source mark.End not_rt suits may = absurd (not_true (sym suits ∙ may))
@@ -411,8 +428,11 @@ waits-other links source mark.Abort not_rt suits may = absurd (not_true (sym sui
 
 not-ready : (links : List Link) (source : ℕ) (hd : Held) → ready_by links source (Some hd) ≡ None →
     may_pass links source hd.mark ≡ false
-not-ready links source hd is = by_test (may_pass links source hd.mark) (record { arrival = hd.arrival; source =
-    source }) is where
+not-ready links source hd is = by_test (may_pass links source hd.mark) (record {
+  arrival = hd.arrival;
+  source =
+      source;
+}) is where
   by_test : (may : Bool) (head : Head) → (if may then Some head else None) ≡ None → may ≡ false
   by_test true head h = absurd (none-some head (sym h))
   by_test false head h = refl
@@ -422,7 +442,7 @@ pub head-suits : (m : Merger) (source : ℕ) (hd : Held) (hs : List Held) → Fi
     suits_sign (link_of m source).is_open (sign_of hd.mark) ≡ true
 head-suits m source hd hs f nothing is =
     let t : Turn None source (link_of m source) = subst (λ o. Turn o source (link_of m source)) nothing
-        (f.turn source) in
+    (f.turn source) in
     let all : Suit (link_of m source).is_open (hd.mark ∷ held_marks hs) (link_of m source).in_sysex =
     subst (λ z. Suit (link_of m source).is_open (held_marks z) (link_of m source).in_sysex) is t.suit in
     all.0
@@ -433,7 +453,7 @@ head-waits : (m : Merger) (source : ℕ) (hd : Held) (hs : List Held) → Fits m
 head-waits m source hd hs f quiet below is =
     let nothing : m.offered ≡ None = (f.quiet quiet).0 in
     let none : ready_head m.links source ≡ None = (subst (IsLeast m.links) (f.quiet quiet).1 (least-IsLeast m.links))
-        source below in
+    source below in
     let not_rt : NoRealtime (hd ∷ hs) = subst NoRealtime is (f.turn source).no_rt in
     waits-other m.links source hd.mark not_rt.0 (head-suits m source hd hs f nothing is)
     (not-ready m.links source hd (sym (ap (λ z. ready_by m.links source (slice_get z 0)) is) ∙ none))
@@ -474,11 +494,11 @@ closed-at f n source = by_place (below_or_not source n) where
   by_place : (source < n) ⊎ (n ≤ source) → IsClosed (link_at (map (λ s. closed_link (f s)) (range_with_len 0 n)) source)
   by_place (inl below) =
       subst IsClosed (sym (get_or-map-range_with_len (λ s. closed_link (f s)) 0 n source source (closed_link []) below
-          (omega arith)))
+      (omega arith)))
       (record { not_open = refl; outside = refl; nothing = refl })
   by_place (inr past) =
       subst IsClosed (sym (get_or_past (map (λ s. closed_link (f s)) (range_with_len 0 n)) source (closed_link [])
-          (omega (arith, length-map-range_with_len (λ s. closed_link (f s)) 0 n))))
+      (omega (arith, length-map-range_with_len (λ s. closed_link (f s)) 0 n))))
       (record { not_open = refl; outside = refl; nothing = refl })
 
 pub opened-IsFresh : (sources outs : ℕ) (routes : List (ℕ × ℕ)) → IsFresh (opened sources outs routes)

@@ -52,23 +52,29 @@ least-step links n None None is none = λ source below. by_place source (below_o
   by_place source (inl earlier) = none source earlier
   by_place source (inr same) = subst (λ s. ready_head links s ≡ None) (sym same) is
 least-step links n None (Some head) is none =
-    let here : head.source ≡ n = ready-source links n head is in
-    (subst (λ s. ready_head links s ≡ Some head) (sym here) is, omega (arith, here), λ source other below other_is.
-        by_place source other other_is (below_or_same source n below)) where
+    let here : head.source ≡ n = ready-source links n head is in (
+      subst (λ s. ready_head links s ≡ Some head) (sym here) is,
+      omega (arith, here),
+      λ source other below other_is.
+          by_place source other other_is (below_or_same source n below),
+    ) where
       by_place : (source : ℕ) (other : Head) → ready_head links source ≡ Some other → (source < n) ⊎ (source ≡ n) →
           Before head other source
       by_place source other other_is (inl earlier) = absurd (none-some other (sym (none source earlier) ∙ other_is))
       by_place source other other_is (inr same) =
           let equal : head ≡ other = same_some head other (sym is ∙ (ap (ready_head links) (sym same) ∙ other_is)) in
           inr (ap (λ z. z.arrival) equal, omega (arith, ready-source links n head is, same))
-least-step links n (Some best) None is h =
-    (h.0, omega (arith, h.1), λ source other below other_is. by_place source other other_is
-        (below_or_same source n below)) where
-      by_place : (source : ℕ) (other : Head) → ready_head links source ≡ Some other → (source < n) ⊎ (source ≡ n) →
-          Before best other source
-      by_place source other other_is (inl earlier) = h.2 source other earlier other_is
-      by_place source other other_is (inr same) = absurd (none-some other (sym is ∙ (ap (ready_head links) (sym same) ∙
-          other_is)))
+least-step links n (Some best) None is h = (
+  h.0,
+  omega (arith, h.1),
+  λ source other below other_is. by_place source other other_is
+      (below_or_same source n below),
+) where
+  by_place : (source : ℕ) (other : Head) → ready_head links source ≡ Some other → (source < n) ⊎ (source ≡ n) →
+      Before best other source
+  by_place source other other_is (inl earlier) = h.2 source other earlier other_is
+  by_place source other other_is (inr same) = absurd (none-some other (sym is ∙ (ap (ready_head links) (sym same) ∙
+      other_is)))
 least-step links n (Some best) (Some head) is h = by_test (nat_lt head.arrival best.arrival) refl where
   here : head.source ≡ n
   here = ready-source links n head is
@@ -89,7 +95,7 @@ least-step links n (Some best) (Some head) is h = by_test (nat_lt head.arrival b
   later not_less source other other_is (inl earlier) = h.2 source other earlier other_is
   later not_less source other other_is (inr same) =
       let equal : head.arrival ≡ other.arrival = ap (λ z. z.arrival) (same_some head other (sym is ∙
-          (ap (ready_head links) (sym same) ∙ other_is))) in
+      (ap (ready_head links) (sym same) ∙ other_is))) in
       elim (earlier_or_same best.arrival head.arrival not_less) [
         | inl less ↦ inl (omega (arith, equal))
         | inr tied ↦ inr (tied ∙ equal, omega (arith, h.1, same))
@@ -98,11 +104,18 @@ least-step links n (Some best) (Some head) is h = by_test (nat_lt head.arrival b
   by_test : (less : Bool) → nat_lt head.arrival best.arrival ≡ less →
       LeastBelow links (suc n) (if less then Some head else Some best)
   by_test true is_less =
-      let less : head.arrival < best.arrival = grind (arith, nat_tests) in
-      (subst (λ s. ready_head links s ≡ Some head) (sym here) is, omega (arith, here), λ source other below other_is.
-          first less source other other_is (below_or_same source n below))
-  by_test false not_less = (h.0, omega (arith, h.1), λ source other below other_is. later not_less source other other_is
-      (below_or_same source n below))
+      let less : head.arrival < best.arrival = grind (arith, nat_tests) in (
+        subst (λ s. ready_head links s ≡ Some head) (sym here) is,
+        omega (arith, here),
+        λ source other below other_is.
+            first less source other other_is (below_or_same source n below),
+      )
+  by_test false not_less = (
+    h.0,
+    omega (arith, h.1),
+    λ source other below other_is. later not_less source other other_is
+        (below_or_same source n below),
+  )
 
 least_below-is : (links : List Link) (count : ℕ) → LeastBelow links count (least_below links count)
 least_below-is links zero = λ source below. absurd (omega arith)
@@ -122,4 +135,4 @@ least_below-none links zero none = refl
 least_below-none links (suc n) none =
     let here : ready_head links n ≡ None = ap (λ z. ready_by links n (slice_get z 0)) (none n (omega arith)) in
     ap (λ z. better z (ready_head links n)) (least_below-none links n (λ source below. none source (omega arith))) ∙
-        here
+    here

@@ -31,7 +31,7 @@ is_owned_below-hit links source at (suc n) below owned =
       by_place (inl earlier) rest = ap (λ z. z || takes_from links source n) (rest earlier)
       by_place (inr same) rest =
           ap (λ z. is_owned_below links source n || z) (subst (λ k. takes_from links source k ≡ true) same owned) ∙
-              or-true (is_owned_below links source n)
+          or-true (is_owned_below links source n)
 
 -- what code reads of a slice
 pub link_at_is : (links : List Link) (at : ℕ) (link : Link) → link ≡ get_or links at link → at < length links →
@@ -67,14 +67,14 @@ is_owned_below-who links source zero h = absurd (false_true h) where
   false_true e = cc
 is_owned_below-who links source (suc n) h = by_test (is_owned_below links source n) refl h (is_owned_below-who links
     source n) where
-  by_test : (earlier : Bool) → is_owned_below links source n ≡ earlier → (earlier || takes_from links source n) ≡ true →
-      (is_owned_below links source n ≡ true → Owner links source n) → Owner links source (suc n)
-  by_test true is all rest =
-      let o : Owner links source n = rest is in
-      record { at = o.at; below = omega (arith, o.below); other = o.other; owned = o.owned }
-  by_test false is all rest =
-      let parts = both_true (not (n == source)) (owns (link_at links n) (link_at links source)) all in
-      record { at = n; below = omega arith; other = other_place n source parts.0; owned = parts.1 }
+      by_test : (earlier : Bool) → is_owned_below links source n ≡ earlier → (earlier || takes_from links source n) ≡ true →
+          (is_owned_below links source n ≡ true → Owner links source n) → Owner links source (suc n)
+      by_test true is all rest =
+          let o : Owner links source n = rest is in
+          record { at = o.at; below = omega (arith, o.below); other = o.other; owned = o.owned }
+      by_test false is all rest =
+          let parts = both_true (not (n == source)) (owns (link_at links n) (link_at links source)) all in
+          record { at = n; below = omega arith; other = other_place n source parts.0; owned = parts.1 }
 
 -- an out of both is shared
 pub share-at : (out : ℕ) (xs ys : List Bool) → get_or xs out false ≡ true → get_or ys out false ≡ true →
@@ -103,4 +103,4 @@ one_owner links out i j ex i_below j_below mine theirs = by_place (same i j) whe
       let m = both_true (link_at links i).is_open (get_or (link_at links i).outs out false) mine in
       let t = both_true (link_at links j).is_open (get_or (link_at links j).outs out false) theirs in
       absurd (false_true (sym (ex.apart i j i_below j_below different m.0 t.0) ∙ share-at out (link_at links i).outs
-          (link_at links j).outs m.1 t.1))
+      (link_at links j).outs m.1 t.1))

@@ -20,8 +20,11 @@ ready_is : (links : List Link) (source : ℕ) (marks : List Held) (head : Head) 
 ready_is links source [] head e = absurd (none-some head e)
 ready_is links source (h ∷ hs) head e = (h, hs, refl, by_test (may_pass links source h.mark) e)
   where
-    by_test : (passes : Bool) → ◌≡◌ {A = Option Head} (if passes then Some (record { arrival = h.arrival; source =
-        source }) else None) (Some head) → passes ≡ true
+    by_test : (passes : Bool) → ◌≡◌ {A = Option Head} (if passes then Some (record {
+      arrival = h.arrival;
+      source =
+          source;
+    }) else None) (Some head) → passes ≡ true
     by_test true same = refl
     by_test false same = absurd (none-some head same)
 
@@ -35,8 +38,11 @@ unready links source (h ∷ hs) more held e cut = sym (ap (λ (m : Held). may_pa
     same : h ≡ held
     same = cc
 
-    by_test : (passes : Bool) → ◌≡◌ {A = Option Head} (if passes then Some (record { arrival = h.arrival; source =
-        source }) else None) None → passes ≡ false
+    by_test : (passes : Bool) → ◌≡◌ {A = Option Head} (if passes then Some (record {
+      arrival = h.arrival;
+      source =
+          source;
+    }) else None) None → passes ≡ false
     by_test true e = absurd (none-some _ (sym e))
     by_test false e = refl
 
@@ -65,8 +71,11 @@ none_held m (Some best) least_is none =
 
 by_offered : (m : Merger) (offered : Option Passed) → ((offered_passes m offered).0 ≡ None) ↔ ((offered ≡ None) ×
     NoneMayPass m)
-by_offered m None = (λ e. (refl, held_none m (least m.links) (least-IsLeast m.links) e), λ h.
-    none_held m (least m.links) (least-IsLeast m.links) h.1)
+by_offered m None = (
+  λ e. (refl, held_none m (least m.links) (least-IsLeast m.links) e),
+  λ h.
+      none_held m (least m.links) (least-IsLeast m.links) h.1,
+)
 by_offered m (Some p) = (λ e. absurd (none-some p (sym e)), λ h. absurd (none-some p (sym h.0)))
 
 pub none_passes : (m : Merger) → ((next_of m).0 ≡ None) ↔ ((m.offered ≡ None) × NoneMayPass m)

@@ -21,14 +21,14 @@ sixteen outs f len each =
     (λ k d below.
     let small : k < 16 = omega (arith, len) in
     get_or_default outs k d false below ∙ (each k small ∙ sym (get_or-map-range_with_len f 0 16 k k d small
-        (omega arith))))
+    (omega arith))))
 
 route-not_memory : (sources outs : ℕ) (before routes : List (ℕ × ℕ)) (memory : Memory) → route_fault sources outs before
     routes ≡ Some (fault.Memory memory) → ⊥
 route-not_memory sources outs before [] memory is = cc
 route-not_memory sources outs before (r ∷ rs) memory is =
     by_test (not (nat_lt r.0 sources && nat_lt r.1 outs)) (stands_in r before) is (route-not_memory sources outs
-        (before ++ r ∷ []) rs memory) where
+    (before ++ r ∷ []) rs memory) where
       by_test : (wrong twice : Bool) → (if wrong then Some fault.Index else (if twice then Some fault.Twice else
           route_fault sources outs (before ++ r ∷ []) rs)) ≡ Some (fault.Memory memory) →
           (route_fault sources outs (before ++ r ∷ []) rs ≡ Some (fault.Memory memory) → ⊥) → ⊥
@@ -103,12 +103,12 @@ route-wrong sources outs before [] wrong is = absurd (none_some is) where
   none_some h = cc
 route-wrong sources outs before (r ∷ rs) wrong is =
     by_test (nat_lt r.0 sources) (nat_lt r.1 outs) (stands_in r before) refl refl refl is (route-wrong sources outs
-        (before ++ r ∷ []) rs wrong) where
+    (before ++ r ∷ []) rs wrong) where
       by_test : (s o twice : Bool) → nat_lt r.0 sources ≡ s → nat_lt r.1 outs ≡ o → stands_in r before ≡ twice →
           (if not (s && o) then Some fault.Index else (if twice then Some fault.Twice else route_fault sources outs
-              (before ++ r ∷ []) rs)) ≡ Some wrong →
+          (before ++ r ∷ []) rs)) ≡ Some wrong →
           (route_fault sources outs (before ++ r ∷ []) rs ≡ Some wrong → IsFirstWrong sources outs (before ++ r ∷ []) rs
-              wrong) → IsFirstWrong sources outs before (r ∷ rs) wrong
+          wrong) → IsFirstWrong sources outs before (r ∷ rs) wrong
       by_test false o twice hs ho ht h rest = first_here sources outs before r rs wrong fault.Index h
           (inl (lt-false r.0 sources hs))
       by_test true false twice hs ho ht h rest = first_here sources outs before r rs wrong fault.Index h
@@ -123,15 +123,15 @@ route-right : (sources outs : ℕ) (before routes : List (ℕ × ℕ)) → route
 route-right sources outs before [] is = tt
 route-right sources outs before (r ∷ rs) is =
     by_test (nat_lt r.0 sources) (nat_lt r.1 outs) (stands_in r before) refl refl refl is (route-right sources outs
-        (before ++ r ∷ []) rs) where
+    (before ++ r ∷ []) rs) where
       some_none : (f : RouterFault) → Some f ≡ None → ⊥
       some_none f h = cc
 
       by_test : (s o twice : Bool) → nat_lt r.0 sources ≡ s → nat_lt r.1 outs ≡ o → stands_in r before ≡ twice →
           (if not (s && o) then Some fault.Index else (if twice then Some fault.Twice else route_fault sources outs
-              (before ++ r ∷ []) rs)) ≡ None →
+          (before ++ r ∷ []) rs)) ≡ None →
           (route_fault sources outs (before ++ r ∷ []) rs ≡ None → AreRoutes sources outs (before ++ r ∷ []) rs) →
-              AreRoutes sources outs before (r ∷ rs)
+          AreRoutes sources outs before (r ∷ rs)
       by_test false o twice hs ho ht h rest = absurd (some_none fault.Index h)
       by_test true false twice hs ho ht h rest = absurd (some_none fault.Index h)
       by_test true true true hs ho ht h rest = absurd (some_none fault.Twice h)

@@ -38,9 +38,11 @@ Steps start before (p ∷ ps) = Step start before p × Steps start (before ++ p 
 steps-push : (start : Merger) (before ps : List Passed) (p : Passed) → Steps start before ps →
     Step start (before ++ ps) p → Steps start before (ps ++ p ∷ [])
 steps-push start before [] p all one = (subst (λ z. Step start z p) (append-nil before) one, tt)
-steps-push start before (q ∷ qs) p all one =
-    (all.0, steps-push start (before ++ q ∷ []) qs p all.1 (subst (λ z. Step start z p)
-        (sym (append_assoc before (q ∷ []) qs)) one))
+steps-push start before (q ∷ qs) p all one = (
+  all.0,
+  steps-push start (before ++ q ∷ []) qs p all.1 (subst (λ z. Step start z p)
+      (sym (append_assoc before (q ∷ []) qs)) one),
+)
 
 steps-at : (start : Merger) (before front back : List Passed) (p : Passed) → Steps start before (front ++ p ∷ back) →
     Step start (before ++ front) p
@@ -75,7 +77,7 @@ offered-suits p link true rt t = suits-realtime p.mark link.is_open rt
 offered-suits p link false rt t =
     let all : Suit link.is_open ((p.mark ∷ []) ++ held_marks link.held) link.in_sysex =
     subst (λ z. Suit link.is_open (z ++ held_marks link.held) link.in_sysex) (offered_turn-own p p.source false refl rt)
-        t.suit in
+    t.suit in
     all.0
 
 step-offered : (start : Merger) (h : History) (p : Passed) → h.now.offered ≡ Some p → Keeps h → IsTracked start h →
@@ -83,7 +85,7 @@ step-offered : (start : Merger) (h : History) (p : Passed) → h.now.offered ≡
 step-offered start h p is k t =
     step-of start h p (subst (HasSource h.now.links) is k.fits.source)
     (offered-suits p (link_of h.now p.source) (is_realtime_mark p.mark) refl
-        (subst (λ o. Turn o p.source (link_of h.now p.source)) is (k.fits.turn p.source)))
+    (subst (λ o. Turn o p.source (link_of h.now p.source)) is (k.fits.turn p.source)))
     (k.fits.free p is) t
 
 step-head : (start : Merger) (h : History) (best : Head) (hd : Held) → h.now.offered ≡ None →
@@ -100,7 +102,7 @@ step-head start h best hd nothing head_is first k t =
 steps-best : (start : Merger) (h : History) (best : Head) (held : Option Held) → h.now.offered ≡ None →
     slice_get (link_of h.now best.source).held 0 ≡ held → IsLeast h.now.links (Some best) →
     Keeps h → IsTracked start h → Steps start [] h.passed → Steps start []
-        (passed_in h (head_passes h.now best.source held)).passed
+    (passed_in h (head_passes h.now best.source held)).passed
 steps-best start h best None nothing head_is first k t s = subst (Steps start []) (sym (append-nil h.passed)) s
 steps-best start h best (Some hd) nothing head_is first k t s =
     steps-push start [] h.passed (waits best.source hd) s (step-head start h best hd nothing head_is first k t)
@@ -113,7 +115,7 @@ steps-held start h (Some best) nothing first k t s = steps-best start h best (sl
 
 steps-next : (start : Merger) (h : History) (offered : Option Passed) → h.now.offered ≡ offered →
     Keeps h → IsTracked start h → Steps start [] h.passed → Steps start []
-        (passed_in h (offered_passes h.now offered)).passed
+    (passed_in h (offered_passes h.now offered)).passed
 steps-next start h None is k t s = steps-held start h (least h.now.links) is (least-IsLeast h.now.links) k t s
 steps-next start h (Some p) is k t s = steps-push start [] h.passed p s (step-offered start h p is k t)
 
@@ -130,7 +132,7 @@ steps-calls : (start : Merger) (h : History) (calls : List Call) → Keeps h →
 steps-calls start h [] k t s = s
 steps-calls start h (call ∷ calls) k t s =
     steps-calls start (after_call h call) calls (keeps-call h call k) (tracks-call start h call k.fits.source t)
-        (steps-call start h call k t s)
+    (steps-call start h call k t s)
 
 -- an out
 
@@ -162,29 +164,29 @@ line-elsewhere : (start : Merger) (out : ℕ) (marks : List Passed) (p : Passed)
 line-elsewhere start out marks p open_now away l =
     line-same start out marks (marks ++ p ∷ []) open_now
     (λ source goes. push-other marks p source (λ e. not_true (sym (subst (λ k. goes_to start out k ≡ true) (sym e) goes)
-        ∙ away))) l
+    ∙ away))) l
 
 -- a real-time mark
 line-realtime : (start : Merger) (out : ℕ) (marks : List Passed) (p : Passed) (open_now : Bool) →
     is_realtime_mark p.mark ≡ true → Line start out marks open_now → Line start out (marks ++ p ∷ []) open_now
 line-realtime start out marks p open_now rt l = line-same start out marks (marks ++ p ∷ []) open_now (λ source goes.
     by_place source (same_or_not p.source source)) l where
-  by_place : (source : ℕ) → (p.source ≡ source) ⊎ (p.source ≢ source) → open_by source (marks ++ p ∷ []) ≡
-      open_by source marks
-  by_place source (inl same) = push-own marks p source same ∙ opens-realtime p.mark (open_by source marks) rt
-  by_place source (inr apart) = push-other marks p source apart
+      by_place : (source : ℕ) → (p.source ≡ source) ⊎ (p.source ≢ source) → open_by source (marks ++ p ∷ []) ≡
+          open_by source marks
+      by_place source (inl same) = push-own marks p source same ∙ opens-realtime p.mark (open_by source marks) rt
+      by_place source (inr apart) = push-other marks p source apart
 
 -- another source that goes to it has no SysEx open where a mark that keeps its turn passes
 others-closed : (start : Merger) (out : ℕ) (marks : List Passed) (p : Passed) → Step start marks p →
     goes_to start out p.source ≡ true → is_realtime_mark p.mark ≡ false →
     (source : ℕ) → source < length start.links → source ≢ p.source → goes_to start out source ≡ true →
-        open_by source marks ≡ false
+    open_by source marks ≡ false
 others-closed start out marks p s goes not_rt source below apart there = by_value (open_by source marks) refl where
   by_value : (b : Bool) → open_by source marks ≡ b → b ≡ false
   by_value false is = refl
   by_value true is =
       absurd (not_true (sym (share-at out (link_of start source).outs (link_of start p.source).outs there goes) ∙
-          s.alone not_rt source below apart is))
+      s.alone not_rt source below apart is))
 
 -- so the out has a SysEx open exactly where the mark's own source has
 line-own : (start : Merger) (out : ℕ) (marks : List Passed) (p : Passed) (open_now : Bool) → Step start marks p →
@@ -202,11 +204,11 @@ line-turn : (start : Merger) (out : ℕ) (marks : List Passed) (p : Passed) (aft
 line-turn start out marks p true s goes not_rt is = (p.source, s.below, goes, is)
 line-turn start out marks p false s goes not_rt is = λ source below there.
     by_place source below there (same_or_not source p.source) where
-  by_place : (source : ℕ) → source < length start.links → goes_to start out source ≡ true →
-      (source ≡ p.source) ⊎ (source ≢ p.source) → open_by source (marks ++ p ∷ []) ≡ false
-  by_place source below there (inl same) = subst (λ k. open_by k (marks ++ p ∷ []) ≡ false) (sym same) is
-  by_place source below there (inr apart) =
-      push-other marks p source (λ e. apart (sym e)) ∙ others-closed start out marks p s goes not_rt source below apart
+      by_place : (source : ℕ) → source < length start.links → goes_to start out source ≡ true →
+          (source ≡ p.source) ⊎ (source ≢ p.source) → open_by source (marks ++ p ∷ []) ≡ false
+      by_place source below there (inl same) = subst (λ k. open_by k (marks ++ p ∷ []) ≡ false) (sym same) is
+      by_place source below there (inr apart) =
+          push-other marks p source (λ e. apart (sym e)) ∙ others-closed start out marks p s goes not_rt source below apart
           there
 
 suiting : (start : Merger) (out : ℕ) (before passed : List Passed) (open_now : Bool) → Steps start before passed →
@@ -234,7 +236,7 @@ suiting start out before (p ∷ ps) open_now all l =
 pub unmixed : (m : Merger) (calls : List Call) → IsFresh m → IsUnmixed m (after_calls (begins m) calls).passed
 unmixed m calls fresh =
     let all : Steps m [] (after_calls (begins m) calls).passed = steps-calls m (begins m) calls (keeps-begins m fresh)
-        (tracks-begins m fresh) tt in
+    (tracks-begins m fresh) tt in
     record {
       suits = λ out. suiting m out [] (after_calls (begins m) calls).passed false all (λ source below goes. refl);
       alone = λ before after p is not_rt other below apart opened.

@@ -46,8 +46,12 @@ everywhere P links source link below here elsewhere other = by_place (same_or_no
 -- a mark is taken
 tracks-offer : (start : Merger) (h : History) (source moment : ℕ) (mk : Mark) (passes : Bool) →
     source < length h.now.links → IsTracked start h →
-    IsTracked start (record { taken = h.taken ++ taken_mark source moment mk ∷ []; passed = h.passed; now =
-        offer_at h.now source moment mk passes })
+    IsTracked start (record {
+      taken = h.taken ++ taken_mark source moment mk ∷ [];
+      passed = h.passed;
+      now =
+          offer_at h.now source moment mk passes;
+    })
 tracks-offer start h source moment mk passes below t = record {
   sources = length-links h.now.links source link ∙ t.sources;
   outs = t.outs;
@@ -58,9 +62,9 @@ tracks-offer start h source moment mk passes below t = record {
   sysex = everywhere (λ k l. l.in_sysex ≡ open_by k (h.taken ++ taken_mark source moment mk ∷ [])) h.now.links source
       link below
       (ap (λ b. opens b mk) (t.sysex source) ∙ sym (open_from-push source false h.taken (taken_mark source moment mk) ∙
-          open_step-own source (open_by source h.taken) (taken_mark source moment mk) refl))
+      open_step-own source (open_by source h.taken) (taken_mark source moment mk) refl))
       (λ k apart. t.sysex k ∙ sym (open_from-push k false h.taken (taken_mark source moment mk) ∙
-          open_step-other k (open_by k h.taken) (taken_mark source moment mk) (λ e. apart (sym e))));
+      open_step-other k (open_by k h.taken) (taken_mark source moment mk) (λ e. apart (sym e))));
 } where
   link : Link
   link = taken (link_of h.now source) passes moment mk
@@ -69,10 +73,19 @@ tracks-offer start h source moment mk passes below t = record {
 tracks-pass : (start : Merger) (h : History) (p : Passed) (link : Link) (offered : Option Passed) →
     p.source < length h.now.links → link.outs ≡ (link_of h.now p.source).outs →
     link.in_sysex ≡ (link_of h.now p.source).in_sysex → link.is_open ≡ opens (link_of h.now p.source).is_open p.mark →
-        IsTracked start h →
-    IsTracked start (record { taken = h.taken; passed = h.passed ++ p ∷ []; now =
-        record { links = slice_set h.now.links p.source link; outs = h.now.outs; offered = offered; draining =
-        h.now.draining } })
+    IsTracked start h →
+    IsTracked start (record {
+      taken = h.taken;
+      passed = h.passed ++ p ∷ [];
+      now =
+          record {
+            links = slice_set h.now.links p.source link;
+            outs = h.now.outs;
+            offered = offered;
+            draining =
+                h.now.draining;
+          };
+    })
 tracks-pass start h p link offered below same_outs same_sysex opening t = record {
   sources = length-links h.now.links p.source link ∙ t.sources;
   outs = t.outs;
@@ -82,13 +95,17 @@ tracks-pass start h p link offered below same_outs same_sysex opening t = record
       t.sysex p.source) (λ k apart. t.sysex k);
   opened = everywhere (λ k l. l.is_open ≡ open_by k (h.passed ++ p ∷ [])) h.now.links p.source link below
       (opening ∙ (ap (λ b. opens b p.mark) (t.opened p.source) ∙ sym (open_from-push p.source false h.passed p ∙
-          open_step-own p.source (open_by p.source h.passed) p refl)))
+      open_step-own p.source (open_by p.source h.passed) p refl)))
       (λ k apart. t.opened k ∙ sym (open_from-push k false h.passed p ∙ open_step-other k (open_by k h.passed) p (λ e.
-          apart (sym e))));
+      apart (sym e))));
 }
 
-tracks-none : (start : Merger) (h : History) → IsTracked start h → IsTracked start (record { taken = h.taken; passed =
-    h.passed ++ []; now = drained h.now })
+tracks-none : (start : Merger) (h : History) → IsTracked start h → IsTracked start (record {
+  taken = h.taken;
+  passed =
+      h.passed ++ [];
+  now = drained h.now;
+})
 tracks-none start h t = record {
   sources = t.sources;
   outs = t.outs;
@@ -102,7 +119,7 @@ tracks-head : (start : Merger) (h : History) (source : ℕ) (held : Option Held)
 tracks-head start h source None below t = tracks-none start h t
 tracks-head start h source (Some hd) below t =
     tracks-pass start h (waits source hd) (after_head (link_of h.now source) hd.mark) h.now.offered below refl refl refl
-        t
+    t
 
 tracks-held : (start : Merger) (h : History) (best : Option Head) → IsLeast h.now.links best → IsTracked start h →
     IsTracked start (passed_in h (held_passes h.now best))
@@ -148,7 +165,7 @@ pub routed : (sources outs source out : ℕ) (routes : List (ℕ × ℕ)) → so
     get_or (link_of (opened sources outs routes) source).outs out false ≡ stands_in (source, out) routes
 routed sources outs source out routes source_below out_below =
     ap (λ l. get_or l.outs out false) (get_or-map-range_with_len (λ s. closed_link (outs_of s routes)) 0 sources source
-        source (closed_link []) source_below (omega arith)) ∙
+    source (closed_link []) source_below (omega arith)) ∙
     get_or-map-range_with_len (λ o. stands_in (source, o) routes) 0 16 out out false out_below (omega arith)
 
 pub as_many : (sources outs : ℕ) (routes : List (ℕ × ℕ)) → length (opened sources outs routes).links ≡ sources

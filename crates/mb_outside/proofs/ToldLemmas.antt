@@ -27,12 +27,12 @@ pub bytes_to-logged : (h handle : ℕ) (bytes : List ℕ) → bytes_to h (logged
 bytes_to-logged h handle [] = grind (arith, nat_tests)
 bytes_to-logged h handle (b ∷ bytes) = choice (handle == h) (h == handle) b bytes _ (grind (arith, nat_tests))
     (bytes_to-logged h handle bytes) where
-  choice : (c d : Bool) (b : ℕ) (bytes all : List ℕ) → c ≡ d → all ≡ (if d then bytes else []) →
-      (if c then b ∷ all else all) ≡ (if d then b ∷ bytes else [])
-  choice true true b bytes all same e = ap (λ bs. b ∷ bs) e
-  choice true false b bytes all same e = cc
-  choice false true b bytes all same e = cc
-  choice false false b bytes all same e = e
+      choice : (c d : Bool) (b : ℕ) (bytes all : List ℕ) → c ≡ d → all ≡ (if d then bytes else []) →
+          (if c then b ∷ all else all) ≡ (if d then b ∷ bytes else [])
+      choice true true b bytes all same e = ap (λ bs. b ∷ bs) e
+      choice true false b bytes all same e = cc
+      choice false true b bytes all same e = cc
+      choice false false b bytes all same e = e
 
 pub told-write : (input : List ℕ) (at : ℕ) (log : List (ℕ × ℕ)) (handle : ℕ) (bytes : List ℕ) →
     told input at (log ++ logged handle bytes) ≡ after_write handle bytes (told input at log)
@@ -63,7 +63,7 @@ told-read input at n log = same_contents _ _ (λ h. left (h == 0)) (λ h. taken 
 pub wrote : (input : List ℕ) (at : ℕ) (log now : List (ℕ × ℕ)) (handle : ℕ) (bytes wanted : List ℕ)
     (before : Contents) →
     now ≡ log ++ logged handle bytes → bytes ≡ wanted → told input at log ≡ before → told input at now ≡
-        after_write handle wanted before
+    after_write handle wanted before
 wrote input at log now handle bytes wanted before logged_is same before_is =
     ap (told input at) logged_is
     ∙ (told-write input at log handle bytes
@@ -77,7 +77,7 @@ pub gives : (input : List ℕ) (at n : ℕ) (log : List (ℕ × ℕ)) (h : ℕ) 
 gives input at n log h before copied rest zero before_is within copied_is ends =
     subst (λ (b : Contents). Gives b (told input (at + n) log) h n (copied ++ rest)) before_is
     (subst (λ (k : ℕ). Gives (told input at log) (told input (at + n) log) k n (copied ++ rest)) (sym (is_zero h zero))
-        at_zero)
+    at_zero)
   where
     is_zero : (h : ℕ) → IsTrue (h == 0) → h ≡ 0
     is_zero h e = grind (arith, nat_tests)

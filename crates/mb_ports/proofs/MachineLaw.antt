@@ -27,10 +27,10 @@ pub events_from-append : {U : Type 0} (m : Machine U) (u : U) (at : ℕ) (xs ys 
 events_from-append m u at [] ys = ap (λ z. events_from m u z ys) (no_offset at)
 events_from-append m u at (x ∷ xs) ys =
     ap (λ z. byte_events m u at x ++ z) (events_from-append m (m.after u x) (at + 1) xs ys ∙
-        ap (λ z. events_from m (m.after u x) (at + 1) xs ++ events_from m (under_from m (m.after u x) xs) z ys)
-        (next_offset at (length xs))) ∙
+    ap (λ z. events_from m (m.after u x) (at + 1) xs ++ events_from m (under_from m (m.after u x) xs) z ys)
+    (next_offset at (length xs))) ∙
     sym (append_assoc (byte_events m u at x) (events_from m (m.after u x) (at + 1) xs)
-        (events_from m (under_from m (m.after u x) xs) (at + suc (length xs)) ys))
+    (events_from m (under_from m (m.after u x) xs) (at + suc (length xs)) ys))
 
 pub under_from-append : {U : Type 0} (m : Machine U) (u : U) (xs ys : List ℕ) → under_from m u (xs ++ ys) ≡ under_from m
     (under_from m u xs) ys
@@ -98,7 +98,7 @@ port_payload-append c (Remarked k ∷ es) fs = port_payload-append c es fs
 port_payload-append c (Carried p x ∷ es) fs = by_test (p == c) (port_payload-append c es fs) where
   by_test : (t : Bool) → port_payload c (es ++ fs) ≡ port_payload c es ++ port_payload c fs →
       (if t then Heard x ∷ port_payload c (es ++ fs) else port_payload c (es ++ fs)) ≡
-          (if t then Heard x ∷ port_payload c es else port_payload c es) ++ port_payload c fs
+      (if t then Heard x ∷ port_payload c es else port_payload c es) ++ port_payload c fs
   by_test true h = ap (λ z. Heard x ∷ z) h
   by_test false h = h
 
@@ -110,14 +110,14 @@ pub port_payload-own : (p at : ℕ) (bs : List ℕ) → port_payload p (carried_
 port_payload-own p at [] = refl
 port_payload-own p at (b ∷ bs) =
     ap (λ t. if t then Heard (spot at b) ∷ port_payload p (carried_run p (at + 1) bs) else port_payload p
-        (carried_run p (at + 1) bs)) (eq-eqb p p refl) ∙
+    (carried_run p (at + 1) bs)) (eq-eqb p p refl) ∙
     ap (λ z. Heard (spot at b) ∷ z) (port_payload-own p (at + 1) bs)
 
 pub port_payload-other : (p c at : ℕ) (bs : List ℕ) → (p == c) ≡ false → port_payload c (carried_run p at bs) ≡ []
 port_payload-other p c at [] e = refl
 port_payload-other p c at (b ∷ bs) e =
     ap (λ t. if t then Heard (spot at b) ∷ port_payload c (carried_run p (at + 1) bs) else port_payload c
-        (carried_run p (at + 1) bs)) e ∙
+    (carried_run p (at + 1) bs)) e ∙
     port_payload-other p c (at + 1) bs e
 
 pub ports_news-run : (gs : ℕ → Group) (p at : ℕ) (bs : List ℕ) → ports_news gs (carried_run p at bs) ≡ map (ported p)
@@ -127,9 +127,9 @@ ports_news-run gs p at (b ∷ bs) =
     ap (λ z. map (ported p) (news (gs p) (spot at b)) ++ z)
     (ports_news-run (one_more gs p (spot at b)) p (at + 1) bs ∙
     ap (λ t. map (ported p) (news_from (if t then group_behind (gs p) (Heard (spot at b)) else gs p)
-        (heard_from (at + 1) 0 bs))) (eq-eqb p p refl)) ∙
+    (heard_from (at + 1) 0 bs))) (eq-eqb p p refl)) ∙
     sym (map-append p (news (gs p) (spot at b)) (news_from (group_behind (gs p) (Heard (spot at b)))
-        (heard_from (at + 1) 0 bs))) where
+    (heard_from (at + 1) 0 bs))) where
       map-append : (p : ℕ) (xs ys : List Known) → map (ported p) (xs ++ ys) ≡ map (ported p) xs ++ map (ported p) ys
       map-append p [] ys = refl
       map-append p (x ∷ xs) ys = ap (λ z. ported p x ∷ z) (map-append p xs ys)
@@ -165,10 +165,10 @@ steady-events m u p (suc (suc room)) at (b ∷ c ∷ ts) s h =
     let rest = steady-events m (m.after u b) p (suc room) (at + 1) (c ∷ ts) (s.2 b) (omega arith) in
     let end : at + 1 + length (c ∷ ts) - 1 ≡ at + length (b ∷ c ∷ ts) - 1 = omega arith in
     ap (λ z. z ++ events_from m (m.after u b) (at + 1) (c ∷ ts)) (one-events (m.port u) p at b (m.notes u b at) s.0 ∙
-        ap (λ z. Carried p (spot at b) ∷ remarked at z) (s.1 b at)) ∙
+    ap (λ z. Carried p (spot at b) ∷ remarked at z) (s.1 b at)) ∙
     ap (λ z. Carried p (spot at b) ∷ z)
     (rest ∙ ap (λ z. carried_run p (at + 1) (c ∷ ts) ++ remarked z (due_after m (m.after u b) [] (at + 1) (c ∷ ts)))
-        end)
+    end)
 
 pub steady-quiet : {U : Type 0} (m : Machine U) (u : U) (p room at : ℕ) (ts : List ℕ) → Steady m u p room →
     length ts < room → due_after m u [] at ts ≡ []

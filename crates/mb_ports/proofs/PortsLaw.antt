@@ -38,12 +38,17 @@ splits : (g : Group) (x : Spot) (es : List Entry) → Splits (beyond g (Heard x 
 splits g x es = by_test (is_realtime x.byte) (is_data x.byte) where
   by_test : (rt da : Bool) → Splits
       (later_by rt da g x (later g es) (later (longer g x) es) (later (begun x) es) ++
-          map realtime_known (if rt then x ∷ realtime es else realtime es))
+      map realtime_known (if rt then x ∷ realtime es else realtime es))
       (if rt then realtime_known x ∷ [] else (if da then data_news g.status g.data_bytes x else ended g x ++
-          status_told x))
+      status_told x))
       (beyond (if rt then g else (if da then longer g x else begun x)) es)
-  by_test true da = record { front = later g es; back = map realtime_known (realtime es); all_is = refl; next_is =
-      refl }
+  by_test true da = record {
+    front = later g es;
+    back = map realtime_known (realtime es);
+    all_is = refl;
+    next_is =
+        refl;
+  }
   by_test false true = record {
     front = [];
     back = beyond (longer g x) es;
@@ -61,7 +66,7 @@ splits g x es = by_test (is_realtime x.byte) (is_data x.byte) where
 beyond-From : (low : ℕ) (g : Group) (es : List Entry) → RisesFrom low es → From low (beyond g es)
 beyond-From low g es rises =
     Each-append (λ k. low ≤ k.at) (later g es) (map realtime_known (realtime es)) (later-From low g es rises)
-        (realtime-From low es rises)
+    (realtime-From low es rises)
 
 -- The ports one after the other.
 
@@ -75,7 +80,7 @@ told-start : (es : List Event) (cs : List ℕ) → flat_map (port_told es) cs �
 told-start es [] = refl
 told-start es (c ∷ cs) =
     ap₂ (λ xs ys. xs ++ ys) (ap (λ z. map (ported c) (z ++ map realtime_known (realtime (port_payload c es))))
-        (told-from no_group (port_payload c es))) (told-start es cs)
+    (told-from no_group (port_payload c es))) (told-start es cs)
 
 -- a port stands once among all
 abbrev Others : ℕ → List ℕ → Type 0
@@ -96,27 +101,27 @@ once-below : (p from count : ℕ) → from ≤ p → p < from + count → Once p
 once-below p from zero low high = absurd (omega arith)
 once-below p from (suc count) low high = by_test (p == from) refl (λ above. once-below p (from + 1) count above
     (omega arith)) where
-  by_test : (t : Bool) → (p == from) ≡ t → (from + 1 ≤ p → Once p (below_from (from + 1) count)) →
-      Once p (from ∷ below_from (from + 1) count)
-  by_test true e next =
-      let same : from ≡ p = grind (arith, nat_tests) in
-      record {
-        before = [];
-        behind = below_from (from + 1) count;
-        are = ap (λ z. z ∷ below_from (from + 1) count) same;
-        others_before = tt;
-        others_behind = others-above p (from + 1) count (omega arith);
-      }
-  by_test false e next =
-      let apart : (p ≡ from) → ⊥ = grind (arith, nat_tests) in
-      let rest : Once p (below_from (from + 1) count) = next (omega arith) in
-      record {
-        before = from ∷ rest.before;
-        behind = rest.behind;
-        are = ap (λ z. from ∷ z) rest.are;
-        others_before = (e, rest.others_before);
-        others_behind = rest.others_behind;
-      }
+      by_test : (t : Bool) → (p == from) ≡ t → (from + 1 ≤ p → Once p (below_from (from + 1) count)) →
+          Once p (from ∷ below_from (from + 1) count)
+      by_test true e next =
+          let same : from ≡ p = grind (arith, nat_tests) in
+          record {
+            before = [];
+            behind = below_from (from + 1) count;
+            are = ap (λ z. z ∷ below_from (from + 1) count) same;
+            others_before = tt;
+            others_behind = others-above p (from + 1) count (omega arith);
+          }
+      by_test false e next =
+          let apart : (p ≡ from) → ⊥ = grind (arith, nat_tests) in
+          let rest : Once p (below_from (from + 1) count) = next (omega arith) in
+          record {
+            before = from ∷ rest.before;
+            behind = rest.behind;
+            are = ap (λ z. from ∷ z) rest.are;
+            others_before = (e, rest.others_before);
+            others_behind = rest.others_behind;
+          }
 
 -- What each port tells stands no earlier than its bytes.
 
@@ -133,8 +138,11 @@ port-rises n low c (Carried p x ∷ es) r =
     let rest : RisesFrom (x.at + 1) (port_payload c es) = port-rises n (x.at + 1) c es r.2 in
     let Goal : Bool → Type 0 = λ t. RisesFrom low (if t then Heard x ∷ port_payload c es else port_payload c es) in
     let high : low ≤ x.at = r.1 in
-    elim (p == c) as Goal [ true ↦ (high, rest) | false ↦ RisesFrom-less (port_payload c es) low (x.at + 1)
-        (omega arith) rest ]
+    elim (p == c) as Goal [
+      | true ↦ (high, rest)
+      | false ↦ RisesFrom-less (port_payload c es) low (x.at + 1)
+          (omega arith) rest
+    ]
 
 abbrev FromPorted : ℕ → List Ported → Type 0
 FromPorted low ps = Each (λ p. low ≤ p.known.at) ps
@@ -149,7 +157,7 @@ told-From n low gs es [] r = tt
 told-From n low gs es (c ∷ cs) r =
     Each-append (λ p. low ≤ p.known.at) (told_at gs es c) (flat_map (told_at gs es) cs)
     (From-ported low c (beyond (gs c) (port_payload c es)) (beyond-From low (gs c) (port_payload c es)
-        (port-rises n low c es r)))
+    (port-rises n low c es r)))
     (told-From n low gs es cs r)
 
 -- a note: at the offset of the last byte, or later, and behind all else there
@@ -161,11 +169,13 @@ notes-Noted n low [] r = tt
 notes-Noted n low (Carried p x ∷ es) r =
     let high : low ≤ x.at = r.1 in
     Each-implies (Noted (x.at + 1)) (Noted low) (map unported (unit_notes es)) (λ p h. (omega (arith, h.0), h.1))
-        (notes-Noted n (x.at + 1) es r.2)
+    (notes-Noted n (x.at + 1) es r.2)
 notes-Noted n low (Remarked k ∷ es) r =
-    let high : low ≤ k.at + 1 = r.0 in
-    ((r.0, r.1), Each-implies (Noted (k.at + 1)) (Noted low) (map unported (unit_notes es)) (λ p h.
-        (omega (arith, h.0), h.1)) (notes-Noted n (k.at + 1) es r.2))
+    let high : low ≤ k.at + 1 = r.0 in (
+      (r.0, r.1),
+      Each-implies (Noted (k.at + 1)) (Noted low) (map unported (unit_notes es)) (λ p h.
+          (omega (arith, h.0), h.1)) (notes-Noted n (k.at + 1) es r.2),
+    )
 
 abbrev LatePorted : ℕ → Ported → Type 0
 LatePorted at p = Late at p.known
@@ -181,9 +191,9 @@ all-late : (n at : ℕ) (gs : ℕ → Group) (es : List Event) (cs : List ℕ) �
 all-late n at gs es cs r =
     Each-append (LatePorted at) (flat_map (told_at gs es) cs) (map unported (unit_notes es))
     (Each-implies (λ p. at + 1 ≤ p.known.at) (LatePorted at) (flat_map (told_at gs es) cs) (λ p h. inl (omega arith))
-        (told-From n (at + 1) gs es cs r))
+    (told-From n (at + 1) gs es cs r))
     (Each-implies (Noted (at + 1)) (LatePorted at) (map unported (unit_notes es)) (noted-late at)
-        (notes-Noted n (at + 1) es r))
+    (notes-Noted n (at + 1) es r))
 
 Each-front : {X : Type 0} (P : X → Type 0) (xs ys : List X) → Each P (xs ++ ys) → Each P xs
 Each-front P [] ys h = tt
@@ -205,7 +215,7 @@ in_order-note k (x ∷ xs) ys h l =
     let back : not_after x.known k ≡ false = grind (arith, nat_tests) in
     ap (λ z. put_in known_of x z) (in_order-note k xs ys h.1 l) ∙
     ap (λ t. if t then x ∷ unported k ∷ in_order known_of (xs ++ ys) else unported k ∷ put_in known_of x
-        (in_order known_of (xs ++ ys))) back
+    (in_order known_of (xs ++ ys))) back
 
 noted-behind : (k : Known) (p : Ported) → k.rank ≡ 4 → Noted (k.at + 1) p → not_after k p.known ≡ true
 noted-behind k p rank h = let high : k.at + 1 ≤ p.known.at + 1 = h.0 in let same : p.known.rank ≡ 4 = h.1 in
@@ -215,7 +225,7 @@ noted-behind k p rank h = let high : k.at + 1 ≤ p.known.at + 1 = h.0 in let sa
 
 other-same : (t : Bool) (c : ℕ) (g : Group) (x : Spot) (es : List Entry) → t ≡ false →
     map (ported c) (beyond g (if t then Heard x ∷ es else es)) ≡ map (ported c)
-        (beyond (if t then group_behind g (Heard x) else g) es)
+    (beyond (if t then group_behind g (Heard x) else g) es)
 other-same true c g x es e = cc
 other-same false c g x es e = refl
 
@@ -237,7 +247,7 @@ map-ported p (x ∷ xs) ys = ap (λ z. ported p x ∷ z) (map-ported p xs ys)
 
 own-splits : (t : Bool) (p : ℕ) (g : Group) (x : Spot) (es : List Entry) → t ≡ true →
     OwnSplits (map (ported p) (beyond g (if t then Heard x ∷ es else es))) p (news g x)
-        (map (ported p) (beyond (if t then group_behind g (Heard x) else g) es))
+    (map (ported p) (beyond (if t then group_behind g (Heard x) else g) es))
 own-splits false p g x es e = cc
 own-splits true p g x es e =
     let s = splits g x es in
@@ -264,7 +274,7 @@ regrouped a f b c d = simp append_assoc
 carried-front : (n low : ℕ) (gs : ℕ → Group) (p : ℕ) (x : Spot) (es : List Event) →
     EventsRise n low (Carried p x ∷ es) →
     in_order known_of (all_told gs (Carried p x ∷ es) (below n)) ≡ map (ported p) (news (gs p) x) ++
-        in_order known_of (all_told (one_more gs p x) es (below n))
+    in_order known_of (all_told (one_more gs p x) es (below n))
 carried-front n low gs p x es r =
     let o : Once p (below n) = once-below p 0 n (omega arith) (omega (arith, r.0)) in
     let gs' = one_more gs p x in
@@ -273,13 +283,13 @@ carried-front n low gs p x es r =
     let before = flat_map (told_at gs' es) o.before in
     let rest = flat_map (told_at gs' es) o.behind in
     let now_is : all_told gs (Carried p x ∷ es) (below n) ≡ (before ++ s.front) ++ (map (ported p) (news (gs p) x) ++
-        ((s.back ++ rest) ++ notes)) =
+    ((s.back ++ rest) ++ notes)) =
     ap (λ cs. flat_map (told_at gs (Carried p x ∷ es)) cs ++ notes) o.are ∙
     (ap (λ z. z ++ notes) (flat_map-append (told_at gs (Carried p x ∷ es)) o.before (p ∷ o.behind)) ∙
     (ap₂ (λ u v. (u ++ (told_at gs (Carried p x ∷ es) p ++ v)) ++ notes) (others-same gs p x es o.before
-        o.others_before) (others-same gs p x es o.behind o.others_behind) ∙
+    o.others_before) (others-same gs p x es o.behind o.others_behind) ∙
     (ap (λ z. (before ++ (z ++ rest)) ++ notes) s.all_is ∙ regroup before s.front (map (ported p) (news (gs p) x))
-        s.back rest notes))) in
+    s.back rest notes))) in
     let next_is : (before ++ s.front) ++ ((s.back ++ rest) ++ notes) ≡ all_told gs' es (below n) =
     regrouped before s.front s.back rest notes ∙
     (ap (λ z. (before ++ (z ++ rest)) ++ notes) s.next_is ∙
@@ -304,18 +314,18 @@ ordered n low gs [] r = ap (λ z. in_order known_of (z ++ [])) (nothing gs (belo
 ordered n low gs (Remarked k ∷ es) r =
     in_order-note k (flat_map (told_at gs es) (below n)) (map unported (unit_notes es))
     (Each-implies (λ p. k.at + 1 ≤ p.known.at) (λ p. k.at < p.known.at) (flat_map (told_at gs es) (below n)) (λ p h.
-        omega arith) (told-From n (k.at + 1) gs es (below n) r.2))
+    omega arith) (told-From n (k.at + 1) gs es (below n) r.2))
     (Each-implies (Noted (k.at + 1)) (λ p. not_after k p.known ≡ true) (map unported (unit_notes es)) (λ p h.
-        noted-behind k p r.1 h) (notes-Noted n (k.at + 1) es r.2)) ∙
+    noted-behind k p r.1 h) (notes-Noted n (k.at + 1) es r.2)) ∙
     ap (λ z. unported k ∷ z) (ordered n (k.at + 1) gs es r.2)
 ordered n low gs (Carried p x ∷ es) r =
     carried-front n low gs p x es r ∙ ap (λ z. map (ported p) (news (gs p) x) ++
-        z) (ordered n (x.at + 1) (one_more gs p x) es r.2)
+    z) (ordered n (x.at + 1) (one_more gs p x) es r.2)
 
 pub ports_law : (n low : ℕ) (es : List Event) → EventsRise n low es → ports_so_far n es ≡ ports_news (λ _. no_group) es
 ports_law n low es r =
     ap (λ z. in_order known_of (z ++ map unported (unit_notes es))) (told-start es (below n)) ∙
-        ordered n low (λ _. no_group) es r
+    ordered n low (λ _. no_group) es r
 
 -- More events.
 
@@ -330,7 +340,7 @@ ports_news-append gs [] fs = refl
 ports_news-append gs (Carried p x ∷ es) fs =
     ap (λ z. map (ported p) (news (gs p) x) ++ z) (ports_news-append (one_more gs p x) es fs) ∙
     sym (append_assoc (map (ported p) (news (gs p) x)) (ports_news (one_more gs p x) es)
-        (ports_news (groups_after (one_more gs p x) es) fs))
+    (ports_news (groups_after (one_more gs p x) es) fs))
 ports_news-append gs (Remarked k ∷ es) fs = ap (λ z. unported k ∷ z) (ports_news-append gs es fs)
 
 pub EventsRise-front : (n low : ℕ) (es fs : List Event) → EventsRise n low (es ++ fs) → EventsRise n low es

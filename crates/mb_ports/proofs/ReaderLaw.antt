@@ -46,7 +46,7 @@ pub stands-ahead : (now : State) (entries : List Entry) (ahead : List Known) →
     ahead) → AheadAt now.offset ahead
 stands-ahead now entries ahead s =
     subst (AheadAt now.offset) (sym (append_cancel_left (so_far entries) ahead s.ahead s.told_is))
-        (ahead-at now (state_of now.offset (last_of entries)) s.ahead refl s.state)
+    (ahead-at now (state_of now.offset (last_of entries)) s.ahead refl s.state)
 
 -- where the next events make nothing known at the next byte's offset, nothing was told ahead
 pub not-ahead : (n low q o : ℕ) (gs : ℕ → Group) (es : List Event) (k : Known) (rest : List Ported) →
@@ -61,7 +61,7 @@ pub front-rest : (known : List Ported) (ahead news : List Ported) (told all rest
     ahead → all ≡ known ++ news → all ≡ told ++ rest → news ≡ ahead ++ rest
 front-rest known ahead news told all rest t a f =
     append_cancel_left known news (ahead ++ rest) (sym a ∙ (f ∙
-        (ap (λ z. z ++ rest) t ∙ append_assoc known ahead rest)))
+    (ap (λ z. z ++ rest) t ∙ append_assoc known ahead rest)))
 
 no_ahead : (n low q o : ℕ) (gs : ℕ → Group) (es : List Event) (ahead : List Known) (rest : List Ported) →
     EventsRise n low es → o < low → AheadAt o ahead →
@@ -85,12 +85,12 @@ events-more m o u bytes more taken at under are =
 pub known-more : {U : Type 0} (m : Machine U) (n : ℕ) → LowPorts m n → (o : ℕ) (u : U) (bytes more : List ℕ)
     (taken : List Event) → o ≡ length bytes → u ≡ under_from m m.start bytes →
     events m bytes ≡ taken → all_known m n (bytes ++ more) ≡ ports_so_far n taken ++ ports_news (last_groups taken)
-        (events_from m u o more)
+    (events_from m u o more)
 known-more m n lows o u bytes more taken at under are =
     let all = events-more m o u bytes more taken at under are in
     ap (ports_so_far n) all ∙
     ports_so_far-append n 0 taken (events_from m u o more) (subst (EventsRise n 0) all (events-rise m n lows m.start 0 0
-        (bytes ++ more) (omega arith)))
+    (bytes ++ more) (omega arith)))
 
 -- A note that is due.
 
@@ -101,27 +101,27 @@ payload-note c taken k = sym (port_payload-append c taken (Remarked k ∷ []) �
 pub tells-due : {U : Type 0} (m : Machine U) (n : ℕ) → LowPorts m n → (o : ℕ) (u : U) (rs : ℕ → State) (input : List ℕ)
     (due xs : List Note) (x : Note) → due ≡ x ∷ xs →
     Tells bare (all_known m n) (Holds m n (whole o u due rs)) (Holds m n (whole o u xs rs)) input input
-        ((None, Notes x.at x.kind) ∷ [])
+    ((None, Notes x.at x.kind) ∷ [])
 tells-due m n lows o u rs input due xs x e bytes told h front =
     let k = remark (o - 1) x in
     let taken = h.taken ++ Remarked k ∷ [] in
     let events_are : events m bytes ≡ taken ++ remarked (o - 1) xs = h.events_are ∙
-        (ap (λ z. h.taken ++ remarked (o - 1) z) e ∙ sym (append_assoc h.taken (Remarked k ∷ [])
-        (remarked (o - 1) xs))) in
+    (ap (λ z. h.taken ++ remarked (o - 1) z) e ∙ sym (append_assoc h.taken (Remarked k ∷ [])
+    (remarked (o - 1) xs))) in
     let none : h.stand.ahead ≡ [] = elim h.rested [ inl no_due ↦ cc | inr rested ↦ rested ] in
     let rises : EventsRise n 0 ((h.taken ++ Remarked k ∷ []) ++ remarked (o - 1) xs) = subst (EventsRise n 0) events_are
-        (events-rise m n lows m.start 0 0 bytes (omega arith)) in
+    (events-rise m n lows m.start 0 0 bytes (omega arith)) in
     let known : ports_so_far n taken ≡ ports_so_far n h.taken ++ unported k ∷ [] = ports_so_far-append n 0 h.taken
-        (Remarked k ∷ []) (EventsRise-front n 0 taken (remarked (o - 1) xs) rises) in
+    (Remarked k ∷ []) (EventsRise-front n 0 taken (remarked (o - 1) xs) rises) in
     let s = h.stand in
     let told_is : told ≡ ports_so_far n h.taken = s.told_is ∙ (ap (λ z. ports_so_far n h.taken ++ map (ported s.port) z)
-        none ∙ append-nil (ports_so_far n h.taken)) in
+    none ∙ append-nil (ports_so_far n h.taken)) in
     let all : told ++ unported k ∷ [] ≡ ports_so_far n taken = ap (λ z. z ++ unported k ∷ []) told_is ∙ sym known in
     let more = events-more m o u bytes input (taken ++ remarked (o - 1) xs) h.offset h.under events_are in
     let more_is : events m (bytes ++ input) ≡ taken ++ (remarked (o - 1) xs ++ events_from m u o input) = more ∙
-        append_assoc taken (remarked (o - 1) xs) (events_from m u o input) in
+    append_assoc taken (remarked (o - 1) xs) (events_from m u o input) in
     let later = ports_so_far-append n 0 taken (remarked (o - 1) xs ++ events_from m u o input)
-        (subst (EventsRise n 0) more_is (events-rise m n lows m.start 0 0 (bytes ++ input) (omega arith))) in
+    (subst (EventsRise n 0) more_is (events-rise m n lows m.start 0 0 (bytes ++ input) (omega arith))) in
     record {
       taken = [];
       front = refl;
@@ -169,18 +169,18 @@ passed-rises n at b None xs es e r = rise-notes n (at + 1) at xs es (omega arith
 pub tells-pass : {U : Type 0} (m : Machine U) (n : ℕ) → LowPorts m n → (o : ℕ) (u : U) (rs : ℕ → State) (b : ℕ)
     (left : List ℕ) → m.port u ≡ None →
     Tells bare (all_known m n) (Holds m n (whole o u [] rs)) (Holds m n (whole (o + 1) (m.after u b) (m.notes u b o)
-        rs)) (b ∷ left) left []
+    rs)) (b ∷ left) left []
 tells-pass m n lows o u rs b left none bytes told h front =
     let s = h.stand in
     let are : events m bytes ≡ h.taken = h.events_are ∙ append-nil h.taken in
     let known = known-more m n lows o u bytes (b ∷ left) h.taken h.offset h.under are in
     let next : ports_news (last_groups h.taken) (events_from m u o (b ∷ left)) ≡ map (ported s.port) s.ahead ++
-        front.0 =
+    front.0 =
     front-rest (ports_so_far n h.taken) (map (ported s.port) s.ahead) (ports_news (last_groups h.taken)
-        (events_from m u o (b ∷ left))) told (all_known m n (bytes ++ b ∷ left)) front.0 s.told_is known front.1 in
+    (events_from m u o (b ∷ left))) told (all_known m n (bytes ++ b ∷ left)) front.0 s.told_is known front.1 in
     let rises : EventsRise n (o + 1) (events_from m u o (b ∷ left)) =
     passed-rises n o b (m.port u) (m.notes u b o) (events_from m (m.after u b) (o + 1) left) none
-        (events-rise m n lows (m.after u b) (o + 1) (o + 1) left (omega arith)) in
+    (events-rise m n lows (m.after u b) (o + 1) (o + 1) left (omega arith)) in
     let no : s.ahead ≡ [] = elim h.here [
       | inl e ↦ e
       | inr e ↦ no_ahead n (o + 1) s.port o (last_groups h.taken) (events_from m u o (b ∷ left)) s.ahead front.0 rises
@@ -188,7 +188,7 @@ tells-pass m n lows o u rs b left none bytes told h front =
           s.ahead s.own)) next
     ] in
     let more = events-more m o u bytes (b ∷ []) h.taken h.offset h.under are ∙
-        ap (λ z. h.taken ++ z) (passed-events (m.port u) o b (m.notes u b o) none) in
+    ap (λ z. h.taken ++ z) (passed-events (m.port u) o b (m.notes u b o) none) in
     record {
       taken = b ∷ [];
       front = refl;
@@ -196,14 +196,14 @@ tells-pass m n lows o u rs b left none bytes told h front =
       answer_is = refl;
       stands = subst (Holds m n (whole (o + 1) (m.after u b) (m.notes u b o) rs) (bytes ++ b ∷ []))
           (sym (append-nil told)) (record {
-        offset = ap (λ z. z + 1) h.offset ∙ sym (length-append bytes (b ∷ []));
-        under = ap (λ z. m.after z b) h.under ∙ sym (under_from-append m m.start bytes (b ∷ []));
-        taken = h.taken;
-        events_are = more;
-        stand = s;
-        here = inl no;
-        rested = inr no;
-      });
+            offset = ap (λ z. z + 1) h.offset ∙ sym (length-append bytes (b ∷ []));
+            under = ap (λ z. m.after z b) h.under ∙ sym (under_from-append m m.start bytes (b ∷ []));
+            taken = h.taken;
+            events_are = more;
+            stand = s;
+            here = inl no;
+            rested = inr no;
+          });
       still = (front.0, front.1 ∙ ap (λ z. z ++ front.0) (sym (append-nil told)));
     }
 
@@ -225,7 +225,7 @@ all-told m n o u rs bytes told h front =
     let are : all_known m n bytes ≡ ports_so_far n h.taken = ap (ports_so_far n) (h.events_are ∙ append-nil h.taken) in
     let next : [] ≡ map (ported s.port) s.ahead ++ front.0 =
     front-rest (ports_so_far n h.taken) (map (ported s.port) s.ahead) [] told (all_known m n bytes) front.0 s.told_is
-        (are ∙ sym (append-nil (ports_so_far n h.taken))) front.1 in
+    (are ∙ sym (append-nil (ports_so_far n h.taken))) front.1 in
     let none : map (ported s.port) s.ahead ≡ [] = append-nil-front (map (ported s.port) s.ahead) front.0 (sym next) in
     s.told_is ∙ (ap (λ z. ports_so_far n h.taken ++ z) none ∙ (append-nil (ports_so_far n h.taken) ∙ sym are))
 
@@ -237,8 +237,10 @@ all_told-none m n o u rs was input tells bytes told h front =
     let none : g.fresh ≡ [] = map-nil bare g.fresh g.answer_is in
     let all : bytes ++ input ≡ bytes ++ g.taken = ap (λ z. bytes ++ z) (g.front ∙ append-nil g.taken) in
     let told_is : told ++ g.fresh ≡ told = ap (λ z. told ++ z) none ∙ append-nil told in
-    sym told_is ∙ (all-told m n o u rs (bytes ++ g.taken) (told ++ g.fresh) g.stands (g.still.0,
-        ap (all_known m n) (sym all) ∙ g.still.1) ∙ ap (all_known m n) (sym all))
+    sym told_is ∙ (all-told m n o u rs (bytes ++ g.taken) (told ++ g.fresh) g.stands (
+      g.still.0,
+      ap (all_known m n) (sym all) ∙ g.still.1,
+    ) ∙ ap (all_known m n) (sym all))
 
 -- with nothing told ahead
 pub every-stands : (n : ℕ) (rs : ℕ → State) (taken : List Event) (told : List Ported) (s : PortsStand n rs taken told) →
@@ -250,7 +252,7 @@ every-stands n rs taken told s none c below = by_test (c == s.port) refl where
       let same : s.port ≡ c = grind (arith, nat_tests) in
       let own : Stands (rs s.port) (port_payload s.port taken) (so_far (port_payload s.port taken)) =
       subst (Stands (rs s.port) (port_payload s.port taken)) (ap (λ z. so_far (port_payload s.port taken) ++ z) none ∙
-          append-nil (so_far (port_payload s.port taken))) s.own in
+      append-nil (so_far (port_payload s.port taken))) s.own in
       subst (λ p. Stands (rs p) (port_payload p taken) (so_far (port_payload p taken))) same own
   by_test false e = let apart : (c ≡ s.port) → ⊥ = grind (arith, nat_tests) in s.others c below apart
 
@@ -289,11 +291,11 @@ pub all_told-rests : {U : Type 0} (m : Machine U) (n : ℕ) → LowPorts m n →
 all_told-rests m n lows o u due rs bytes h =
     let s = h.stand in
     let known : all_known m n bytes ≡ ports_so_far n h.taken ++ ports_news (last_groups h.taken)
-        (remarked (o - 1) due) =
+    (remarked (o - 1) due) =
     ap (ports_so_far n) h.events_are ∙ ports_so_far-append n 0 h.taken (remarked (o - 1) due)
-        (subst (EventsRise n 0) h.events_are (events-rise m n lows m.start 0 0 bytes (omega arith))) in
+    (subst (EventsRise n 0) h.events_are (events-rise m n lows m.start 0 0 bytes (omega arith))) in
     let same : map (ported s.port) s.ahead ≡ ports_news (last_groups h.taken) (remarked (o - 1) due) =
-        append_cancel_left (ports_so_far n h.taken) _ _ (sym s.told_is ∙ known) in
+    append_cancel_left (ports_so_far n h.taken) _ _ (sym s.told_is ∙ known) in
     let none : s.ahead ≡ [] = elim h.rested [
       | inl e ↦ map-nil (ported s.port) s.ahead (same ∙ ap (λ z. ports_news (last_groups h.taken) (remarked (o - 1) z))
           e)
@@ -309,21 +311,21 @@ finish-stands m n lows o u due rs bytes h c below =
     let rests : (h.stand.ahead ≡ []) × (due ≡ []) = all_told-rests m n lows o u due rs bytes h in
     let payload : port_payload c h.taken ≡ port_payload c (events m bytes) =
     sym (ap (port_payload c) h.events_are ∙ (port_payload-append c h.taken (remarked (o - 1) due) ∙
-        (ap (λ z. port_payload c h.taken ++ z) (port_payload-notes c (o - 1) due) ∙
-        append-nil (port_payload c h.taken)))) in
+    (ap (λ z. port_payload c h.taken ++ z) (port_payload-notes c (o - 1) due) ∙
+    append-nil (port_payload c h.taken)))) in
     subst (λ es. Stands (rs c) es (so_far es)) payload (every-stands n rs h.taken (all_known m n bytes) h.stand rests.0
-        c below)
+    c below)
 
 -- One port's reader begins anew where all was told: it stands for a recording of the same length and with the same
 -- packet under way, in which that port carries nothing and each other what it carried.
 pub anew-holds : {U : Type 0} (m : Machine U) (n : ℕ) → LowPorts m n → (o : ℕ) (u : U) (due : List Note) (rs now : ℕ →
     State) (bytes instead : List ℕ) (p : ℕ) → p < n →
     Holds m n (whole o u due rs) bytes (all_known m n bytes) → length instead ≡ length bytes →
-        under_from m m.start instead ≡ under_from m m.start bytes →
+    under_from m m.start instead ≡ under_from m m.start bytes →
     port_payload p (events m instead) ≡ [] → ((c : ℕ) → c < n → (c ≡ p → ⊥) → port_payload c (events m instead) ≡
-        port_payload c (events m bytes)) →
+    port_payload c (events m bytes)) →
     Stands (now p) [] [] → ((c : ℕ) → c < n → (c ≡ p → ⊥) → now c ≡ rs c) → Holds m n (whole o u due now) instead
-        (all_known m n instead)
+    (all_known m n instead)
 anew-holds m n lows o u due rs now bytes instead p below h lengths same silent payloads fresh others =
     let rests : (h.stand.ahead ≡ []) × (due ≡ []) = all_told-rests m n lows o u due rs bytes h in
     record {
@@ -339,9 +341,9 @@ anew-holds m n lows o u due rs now bytes instead p below h lengths same silent p
         own = subst (λ es. Stands (now p) es (so_far es ++ [])) (sym silent) fresh;
         others = λ c low apart.
             subst (λ (s : State). Stands s (port_payload c (events m instead))
-                (so_far (port_payload c (events m instead)))) (sym (others c low apart))
+            (so_far (port_payload c (events m instead)))) (sym (others c low apart))
             (subst (λ es. Stands (rs c) es (so_far es)) (sym (payloads c low apart)) (finish-stands m n lows o u due rs
-                bytes h c low));
+            bytes h c low));
       };
       here = inl refl;
       rested = inl rests.1;

@@ -26,7 +26,7 @@ pub tells-trans : {K T : Type 0} (bare : K → T) (known : List ℕ → List K) 
 tells-trans bare known was mid now input between left seen more f g bytes told h front =
     let a : Goes bare known mid input between seen bytes told = f bytes told h front in
     let here : bytes ++ input ≡ (bytes ++ a.taken) ++ between = ap (λ z. bytes ++ z) a.front ∙
-        sym (append_assoc bytes a.taken between) in
+    sym (append_assoc bytes a.taken between) in
     let b : Goes bare known now between left more (bytes ++ a.taken) (told ++ a.fresh) =
     g (bytes ++ a.taken) (told ++ a.fresh) a.stands (a.still.0, ap known (sym here) ∙ a.still.1) in
     record {
@@ -44,8 +44,11 @@ pub tells-as : {K T : Type 0} (bare : K → T) (known also : List ℕ → List K
     (input left : List ℕ) (seen : List T) → ((bs : List ℕ) → known bs ≡ also bs) →
     Tells bare known was now input left seen → Tells bare also was now input left seen
 tells-as bare known also was now input left seen same tells bytes told h front =
-    let g : Goes bare known now input left seen bytes told = tells bytes told h (front.0, same (bytes ++ input) ∙
-        front.1) in
+    let g : Goes bare known now input left seen bytes told = tells bytes told h (
+      front.0,
+      same (bytes ++ input) ∙
+          front.1,
+    ) in
     record {
       taken = g.taken;
       front = g.front;

@@ -108,15 +108,31 @@ quietly input output before now e = e ∙ sym (after_write-none 2 (after_write 1
 pub ran-read_fault : (c : Command) (limit : ℕ) (before now : Contents) (bytes : List ℕ) →
     length bytes ≤ limit → SoFar c before now bytes → Ran c limit before now (Stopped ReadFault)
 ran-read_fault c limit before now bytes within s =
-    record { input = bytes; output = live_output_of c bytes; tally = []; contents =
-        quietly bytes _ before now s.contents; front = s.front; within = within; ends = (refl, refl) }
+    record {
+      input = bytes;
+      output = live_output_of c bytes;
+      tally = [];
+      contents =
+          quietly bytes _ before now s.contents;
+      front = s.front;
+      within = within;
+      ends = (refl, refl);
+    }
 
 pub ran-too_long : (c : Command) (limit : ℕ) (before now : Contents) (bytes : List ℕ) →
     length bytes ≡ limit → SoFar c before now bytes → Ran c limit before now (Stopped TooLong)
 ran-too_long c limit before now bytes same s =
-    record { input = bytes; output = live_output_of c bytes; tally = []; contents =
-        quietly bytes _ before now s.contents; front = s.front; within = omega (arith, same); ends =
-        (same, refl, refl) }
+    record {
+      input = bytes;
+      output = live_output_of c bytes;
+      tally = [];
+      contents =
+          quietly bytes _ before now s.contents;
+      front = s.front;
+      within = omega (arith, same);
+      ends =
+          (same, refl, refl);
+    }
 
 -- the end was read
 pub at-end : (c : Command) (before old now : Contents) (bytes buffer : List ℕ) (count : ℕ) →
@@ -330,10 +346,10 @@ pub so_far-fed : {S : Type 0} (tells : Bool) (contents : S → Contents) (read_f
     (IsTrue tells → SoFar c (contents start) (contents now) all)
 so_far-fed tells contents read_faults c was goes start old mid now bytes piece buffer taken count f size more stands
     told gives cut = (
-  bytes ++ piece,
-  omega (arith, length-append bytes piece, size, more),
-  f.stands bytes stands,
-  λ t. so_far-more c (contents start) (contents mid) (contents now) bytes piece f.given
-      (read-piece c (contents start) (contents old) (contents mid) bytes buffer piece count (told t) (gives t) cut)
-      (f.took_it.contents_are t) (f.beyond bytes stands),
-)
+      bytes ++ piece,
+      omega (arith, length-append bytes piece, size, more),
+      f.stands bytes stands,
+      λ t. so_far-more c (contents start) (contents mid) (contents now) bytes piece f.given
+          (read-piece c (contents start) (contents old) (contents mid) bytes buffer piece count (told t) (gives t) cut)
+          (f.took_it.contents_are t) (f.beyond bytes stands),
+    )

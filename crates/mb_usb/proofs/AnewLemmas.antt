@@ -50,7 +50,7 @@ same-under : (f : ℕ → Option ℕ) (c : ℕ) (bytes : List ℕ) → usb_whole
     under_from (usb f) Between (without_cable c bytes) ≡ under_from (usb f) Between bytes
 same-under f c bytes h =
     whole-between f (without_cable c bytes) (ap (λ n. n % 4 == 0) (length-without c bytes) ∙ h) ∙
-        sym (whole-between f bytes h)
+    sym (whole-between f bytes h)
 
 -- What the packets carry.
 
@@ -77,7 +77,7 @@ silent-packet c at h rest true e =
     let none : (c * 16) % 16 ≡ 0 = omega arith in
     ap (λ n. if (c * 16) / 16 == c then heard_from (at + 1) 0 (take (used n) rest) else []) none ∙
     (ap (λ z. if (c * 16) / 16 == c then heard_from (at + 1) 0 z else []) (take-none rest) ∙
-        neither ((c * 16) / 16 == c))
+    neither ((c * 16) / 16 == c))
 silent-packet c at h rest false e = ap (λ (t : Bool). if t then heard_in (at_head at h rest) else []) e
 
 silent-from : (c at : ℕ) (bytes : List ℕ) → flat_map (on_cable c) (packets_from at (without_cable c bytes)) ≡ []
@@ -111,7 +111,7 @@ other-from c d at (h ∷ a ∷ b ∷ []) other = ap (λ z. z ++ []) (other-packe
     refl)
 other-from c d at (h ∷ a ∷ b ∷ e ∷ bs) other =
     ap₂ (λ y z. y ++ z) (other-packet c d at h (a ∷ b ∷ e ∷ []) (h / 16 == c) other refl) (other-from c d (at + 4) bs
-        other)
+    other)
 
 -- The readers.
 
@@ -127,10 +127,10 @@ anew-all : (p : Packets) (dins now : List State) (c : ℕ) → c < 16 → Stands
 anew-all p dins now c low fresh others bytes h all =
     let instead = without_cable c bytes in
     let known : UsbHolds p dins bytes (all_known (usb each_cable) 16 bytes) =
-        subst (UsbHolds p dins bytes) (sym (each_law bytes)) h in
+    subst (UsbHolds p dins bytes) (sym (each_law bytes)) h in
     subst (UsbHolds p now instead) (each_law instead)
     (anew-holds (usb each_cable) 16 each_low p.offset p.under (notes_in p.due) (reader_at dins) (reader_at now) bytes
-        instead c low known
+    instead c low known
     (length-without c bytes) (same-under each_cable c bytes all) (each-payload c instead low ∙ silent-from c 0 bytes)
     (λ d below other. each-payload d instead below ∙ (other-from c d 0 bytes other ∙ sym (each-payload d bytes below)))
     fresh (λ d below other. others d other))
@@ -141,7 +141,7 @@ pub usb-anew : (was : UsbState) (p : Packets) (dins : List State) (c : ℕ) (r :
 usb-anew was p dins c r offset e low here fresh =
     subst (λ (s : UsbState). UsbAnew c s (usb_state p (slice_set dins c r))) e
     (anew-all p dins (slice_set dins c r) c low (fresh-stands (reader_at (slice_set dins c r) c) offset
-        (get_or-set_same dins c r din.fresh here ∙ fresh))
+    (get_or-set_same dins c r din.fresh here ∙ fresh))
     (λ d other. get_or-set_other dins c d r din.fresh other))
 
 anew-alone : (c : ℕ) (p : Packets) (r now : State) → Stands now [] [] →
@@ -149,15 +149,15 @@ anew-alone : (c : ℕ) (p : Packets) (r now : State) → Stands now [] [] →
 anew-alone c p r now fresh bytes h all =
     let instead = without_cable c bytes in
     let known : CableHolds c p r bytes (one_known (usb (only_cable c)) bytes) = subst (CableHolds c p r bytes)
-        (sym (only_law c bytes)) h in
+    (sym (only_law c bytes)) h in
     subst (CableHolds c p now instead) (only_law c instead)
     (anew-one (usb (only_cable c)) (only_low c) p.offset p.under (notes_in p.due) (λ _. r) (λ _. now) bytes instead
-        known
+    known
     (length-without c bytes) (same-under (only_cable c) c bytes all) (only-payload c instead ∙ silent-from c 0 bytes)
-        fresh)
+    fresh)
 
 pub cable-anew : (was : CableState) (c : ℕ) (p : Packets) (r now : State) (offset : ℕ) → cable_state c p r ≡ was →
     now ≡ record din.fresh { offset = offset } → CableAnew was (cable_state c p now)
 cable-anew was c p r now offset e fresh =
     subst (λ (s : CableState). CableAnew s (cable_state c p now)) e
-        (anew-alone c p r now (fresh-stands now offset fresh))
+    (anew-alone c p r now (fresh-stands now offset fresh))

@@ -63,17 +63,29 @@ steady-two : (f : ℕ → Option ℕ) (h a p k : ℕ) → Use k → used (h % 16
 steady-two f h a p k None_used e here = tt
 steady-two f h a p k One_used e here = tt
 steady-two f h a p k Two_used e here = ap (λ z. port_by (z - 1) (f (h / 16))) e ∙ here
-steady-two f h a p k Three_used e here = (ap (λ z. port_by (z - 1) (f (h / 16))) e ∙ here, λ b at. refl, λ b.
-    steady-three f h a b p 3 Three_used e here)
+steady-two f h a p k Three_used e here = (
+  ap (λ z. port_by (z - 1) (f (h / 16))) e ∙ here,
+  λ b at. refl,
+  λ b.
+      steady-three f h a b p 3 Three_used e here,
+)
 
 steady-one : (f : ℕ → Option ℕ) (h p k : ℕ) → Use k → used (h % 16) ≡ k → f (h / 16) ≡ Some p →
     Steady (usb f) (One h) p k
 steady-one f h p k None_used e here = tt
 steady-one f h p k One_used e here = ap (λ z. port_by z (f (h / 16))) e ∙ here
-steady-one f h p k Two_used e here = (ap (λ z. port_by z (f (h / 16))) e ∙ here, λ b at. refl, λ b.
-    steady-two f h b p 2 Two_used e here)
-steady-one f h p k Three_used e here = (ap (λ z. port_by z (f (h / 16))) e ∙ here, λ b at. refl, λ b.
-    steady-two f h b p 3 Three_used e here)
+steady-one f h p k Two_used e here = (
+  ap (λ z. port_by z (f (h / 16))) e ∙ here,
+  λ b at. refl,
+  λ b.
+      steady-two f h b p 2 Two_used e here,
+)
+steady-one f h p k Three_used e here = (
+  ap (λ z. port_by z (f (h / 16))) e ∙ here,
+  λ b at. refl,
+  λ b.
+      steady-two f h b p 3 Three_used e here,
+)
 
 -- as many bytes as the packet under way still carries are its port's, and a note comes behind them
 pub steady : (f : ℕ → Option ℕ) (u : Under) (p : ℕ) → port_by (left_of u) (f (head_of u / 16)) ≡ Some p →
@@ -104,7 +116,7 @@ byte-payload m u q at b =
 
 step-payload : {U : Type 0} (m : Machine U) (u : U) (q at b : ℕ) (bs : List ℕ) →
     port_payload q (events_from m u at (b ∷ bs)) ≡ mine q (m.port u) (spot at b) ++
-        port_payload q (events_from m (m.after u b) (at + 1) bs)
+    port_payload q (events_from m (m.after u b) (at + 1) bs)
 step-payload m u q at b bs =
     port_payload-append q (byte_events m u at b) (events_from m (m.after u b) (at + 1) bs) ∙
     ap (λ z. z ++ port_payload q (events_from m (m.after u b) (at + 1) bs)) (byte-payload m u q at b)
@@ -173,12 +185,12 @@ none-got k at false w = refl
 -- a byte of a packet behind its first, and what follows it
 next-payload : (f : ℕ → Option ℕ) (u : Under) (q k at b : ℕ) (bs : List ℕ) → left_of u ≡ k →
     port_payload q (events_from (usb f) u at (b ∷ bs)) ≡ got k (goes (f (head_of u / 16)) q) (spot at b) ++
-        port_payload q (events_from (usb f) (under_after u b) (at + 1) bs)
+    port_payload q (events_from (usb f) (under_after u b) (at + 1) bs)
 next-payload f u q k at b bs e =
     step-payload (usb f) u q at b bs ∙
     ap (λ z. z ++ port_payload q (events_from (usb f) (under_after u b) (at + 1) bs))
     (mine-got q (left_of u) (f (head_of u / 16)) (spot at b) ∙ ap (λ z. got z (goes (f (head_of u / 16)) q) (spot at b))
-        e)
+    e)
 
 four_on : (at : ℕ) → at + 1 + 1 + 1 + 1 ≡ at + 4
 four_on at = omega arith
@@ -189,23 +201,31 @@ cables-from f q at [] = refl
 cables-from f q at (h ∷ []) =
     next-payload f Between q 0 at h [] refl ∙
     (none-got (used (h % 16)) at (goes (f (h / 16)) q) (use_of (h % 16)) ∙
-        sym (append-nil (pick f q (record { at = at; head = h; rest = [] }))))
+    sym (append-nil (pick f q (record { at = at; head = h; rest = [] }))))
 cables-from f q at (h ∷ a ∷ []) =
     let t = goes (f (h / 16)) q in
     next-payload f Between q 0 at h (a ∷ []) refl ∙
     (next-payload f (One h) q (used (h % 16)) (at + 1) a [] refl ∙
     (append-nil (got (used (h % 16)) t (spot (at + 1) a)) ∙
-    (one-got (used (h % 16)) at a t (use_of (h % 16)) ∙ sym (append-nil (pick f q (record { at = at; head = h; rest =
-        a ∷ [] }))))))
+    (one-got (used (h % 16)) at a t (use_of (h % 16)) ∙ sym (append-nil (pick f q (record {
+      at = at;
+      head = h;
+      rest =
+          a ∷ [];
+    }))))))
 cables-from f q at (h ∷ a ∷ b ∷ []) =
     let t = goes (f (h / 16)) q in
     let k = used (h % 16) in
     next-payload f Between q 0 at h (a ∷ b ∷ []) refl ∙
     (next-payload f (One h) q k (at + 1) a (b ∷ []) refl ∙
     (ap (λ z. got k t (spot (at + 1) a) ++ z) (next-payload f (Two h a) q (k - 1) (at + 1 + 1) b [] refl ∙
-        append-nil (got (k - 1) t (spot (at + 1 + 1) b))) ∙
-    (two-got k at a b t (use_of (h % 16)) ∙ sym (append-nil (pick f q (record { at = at; head = h; rest =
-        a ∷ b ∷ [] }))))))
+    append-nil (got (k - 1) t (spot (at + 1 + 1) b))) ∙
+    (two-got k at a b t (use_of (h % 16)) ∙ sym (append-nil (pick f q (record {
+      at = at;
+      head = h;
+      rest =
+          a ∷ b ∷ [];
+    }))))))
 cables-from f q at (h ∷ a ∷ b ∷ c ∷ bs) =
     let t = goes (f (h / 16)) q in
     let k = used (h % 16) in
@@ -213,14 +233,14 @@ cables-from f q at (h ∷ a ∷ b ∷ c ∷ bs) =
     let second = got (k - 1) t (spot (at + 1 + 1) b) in
     let third = got (k - 2) t (spot (at + 1 + 1 + 1) c) in
     let rest : port_payload q (events_from (usb f) Between (at + 1 + 1 + 1 + 1) bs) ≡ flat_map (pick f q)
-        (packets_from (at + 4) bs) =
+    (packets_from (at + 4) bs) =
     ap (λ z. port_payload q (events_from (usb f) Between z bs)) (four_on at) ∙ cables-from f q (at + 4) bs in
     next-payload f Between q 0 at h (a ∷ b ∷ c ∷ bs) refl ∙
     (next-payload f (One h) q k (at + 1) a (b ∷ c ∷ bs) refl ∙
     (ap (λ z. first ++ z)
     (next-payload f (Two h a) q (k - 1) (at + 1 + 1) b (c ∷ bs) refl ∙
     ap (λ z. second ++ z) (next-payload f (Three h a b) q (k - 2) (at + 1 + 1 + 1) c bs refl ∙
-        ap (λ z. third ++ z) rest)) ∙
+    ap (λ z. third ++ z) rest)) ∙
     (joined first second third (flat_map (pick f q) (packets_from (at + 4) bs)) ∙
     ap (λ z. z ++ flat_map (pick f q) (packets_from (at + 4) bs)) (three-got k at a b c t (use_of (h % 16))))))
   where
@@ -231,7 +251,7 @@ cables-from f q at (h ∷ a ∷ b ∷ c ∷ bs) =
 
 step-notes : {U : Type 0} (m : Machine U) (u : U) (at b : ℕ) (bs : List ℕ) →
     unit_notes (events_from m u at (b ∷ bs)) ≡ map (remark at) (m.notes u b at) ++
-        unit_notes (events_from m (m.after u b) (at + 1) bs)
+    unit_notes (events_from m (m.after u b) (at + 1) bs)
 step-notes m u at b bs = by_port (m.port u) (m.notes u b at) (events_from m (m.after u b) (at + 1) bs) where
   noted : (xs : List Note) (es : List Event) → unit_notes (remarked at xs ++ es) ≡ map (remark at) xs ++ unit_notes es
   noted [] es = refl
@@ -281,23 +301,23 @@ notes-from : (f : ℕ → Option ℕ) (at : ℕ) (bytes : List ℕ) → unit_not
 notes-from f at [] = refl
 notes-from f at (h ∷ []) =
     step-notes (usb f) Between at h [] ∙ (append-nil (map (remark at) (notes_in (note_at Between h at))) ∙
-        (first-note at h ∙ no-more (nat_le (h % 16) 1) at))
+    (first-note at h ∙ no-more (nat_le (h % 16) 1) at))
 notes-from f at (h ∷ a ∷ []) =
     step-notes (usb f) Between at h (a ∷ []) ∙
     (ap (λ z. map (remark at) (notes_in (note_at Between h at)) ++ z) (step-notes (usb f) (One h) (at + 1) a []) ∙
     (append-nil (map (remark at) (notes_in (note_at Between h at))) ∙
-        (first-note at h ∙ no-more (nat_le (h % 16) 1) at)))
+    (first-note at h ∙ no-more (nat_le (h % 16) 1) at)))
 notes-from f at (h ∷ a ∷ b ∷ []) =
     step-notes (usb f) Between at h (a ∷ b ∷ []) ∙
     (ap (λ z. map (remark at) (notes_in (note_at Between h at)) ++ z) (step-notes (usb f) (One h) (at + 1) a (b ∷ []) ∙
-        step-notes (usb f) (Two h a) (at + 1 + 1) b []) ∙
+    step-notes (usb f) (Two h a) (at + 1 + 1) b []) ∙
     (append-nil (map (remark at) (notes_in (note_at Between h at))) ∙
-        (first-note at h ∙ no-more (nat_le (h % 16) 1) at)))
+    (first-note at h ∙ no-more (nat_le (h % 16) 1) at)))
 notes-from f at (h ∷ a ∷ b ∷ c ∷ bs) =
     let first = map (remark at) (notes_in (note_at Between h at)) in
     let last = map (remark (at + 1 + 1 + 1)) (notes_in (note_at (Three h a b) c (at + 1 + 1 + 1))) in
     let rest : unit_notes (events_from (usb f) Between (at + 1 + 1 + 1 + 1) bs) ≡ flat_map unit_note
-        (packets_from (at + 4) bs) =
+    (packets_from (at + 4) bs) =
     ap (λ z. unit_notes (events_from (usb f) Between z bs)) (four_on at) ∙ notes-from f (at + 4) bs in
     step-notes (usb f) Between at h (a ∷ b ∷ c ∷ bs) ∙
     (ap (λ z. first ++ z)
@@ -306,7 +326,7 @@ notes-from f at (h ∷ a ∷ b ∷ c ∷ bs) =
     (step-notes (usb f) (Three h a b) (at + 1 + 1 + 1) c bs ∙ ap (λ z. last ++ z) rest))) ∙
     (sym (append_assoc first last (flat_map unit_note (packets_from (at + 4) bs))) ∙
     ap (λ z. z ++ flat_map unit_note (packets_from (at + 4) bs)) (ap (λ z. z ++ last) (first-note at h) ∙
-        last-note at h a b c)))
+    last-note at h a b c)))
 
 -- All cables.
 
@@ -339,12 +359,12 @@ each-told : (bytes : List ℕ) (from count : ℕ) → from + count ≤ 16 → fl
 each-told bytes from zero h = refl
 each-told bytes from (suc count) h =
     ap₂ (λ (es : List Entry) (z : List Ported). map (ported from) (payload_told es) ++
-        z) (each-payload from bytes (omega arith)) (each-told bytes (from + 1) count (omega arith))
+    z) (each-payload from bytes (omega arith)) (each-told bytes (from + 1) count (omega arith))
 
 pub each_law : (bytes : List ℕ) → all_known (usb each_cable) 16 bytes ≡ all_cables_so_far bytes
 each_law bytes =
     ap₂ (λ (xs : List Ported) (ns : List Known). in_order known_of (xs ++ map unported ns))
-        (each-told bytes 0 16 (omega arith)) (notes-from each_cable 0 bytes)
+    (each-told bytes 0 16 (omega arith)) (notes-from each_cable 0 bytes)
 
 -- One cable.
 
@@ -367,11 +387,11 @@ pub only_law : (c : ℕ) (bytes : List ℕ) → one_known (usb (only_cable c)) b
 only_law c bytes =
     one_so_far (events (usb (only_cable c)) bytes) ∙
     ap₂ (λ (es : List Entry) (ns : List Known). in_order (λ k. k) (payload_told es ++ ns)) (only-payload c bytes)
-        (notes-from (only_cable c) 0 bytes)
+    (notes-from (only_cable c) 0 bytes)
 
 -- what is known of some bytes stays known
 pub stays : (c : ℕ) (bytes more : List ℕ) → IsFront (cable_so_far c bytes) (cable_so_far c (bytes ++ more))
 stays c bytes more =
     let f : IsFront (one_known (usb (only_cable c)) bytes) (one_known (usb (only_cable c)) (bytes ++ more)) =
-        one-stays (usb (only_cable c)) (only_low c) bytes more in
+    one-stays (usb (only_cable c)) (only_low c) bytes more in
     (f.0, sym (only_law c (bytes ++ more)) ∙ (f.1 ∙ ap (λ ks. ks ++ f.0) (only_law c bytes)))

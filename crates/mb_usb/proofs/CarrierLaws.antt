@@ -64,7 +64,7 @@ clean cable ms s v =
     let su : Suit false ms = Suit-suited ms s v in
     usb-notes cable (usb_written cable ms)
     (ap (λ bs. flat_map unit_note (packets bs)) (written-cuts cable ms s) ∙ unit_notes-none cable (cuts [] ms)
-        (AreGood-cuts ms su))
+    (AreGood-cuts ms su))
     (subst (λ bs. Clean Rest bs) (sym (written-carried cable ms s v)) (Clean-held ms su))
 
 pub whole : (cable : ℕ) (ms : List Sign) → suited ms ≡ true → usb_whole (usb_written cable ms) ≡ true
@@ -82,5 +82,9 @@ pub valid : (cable : ℕ) (bytes : List ℕ) → AreValid (signs_of (usb_reading
 valid cable bytes = AreValid-Suit (signs_of (usb_reading cable bytes)) (Suit-usb cable bytes)
 
 pub few : (cable : ℕ) (bytes : List ℕ) → length (signs_of (usb_reading cable bytes)) ≤ 2 * length bytes
-few cable bytes = omega (arith, ap length (usb-signs cable bytes), two_an_entry (cable_payload cable bytes),
-    length-payload cable bytes)
+few cable bytes = omega (
+  arith,
+  ap length (usb-signs cable bytes),
+  two_an_entry (cable_payload cable bytes),
+  length-payload cable bytes,
+)

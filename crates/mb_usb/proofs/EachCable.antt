@@ -21,7 +21,7 @@ use Rattle.mb_usb.proofs.Steps.{same-undue, step-due, step-pass, step-carry, ste
 
 each-tells : (was now : List ℕ → List Ported → Type 0) (input left : List ℕ) (seen : List (Option ℕ × Told)) →
     Tells bare (all_known (usb each_cable) 16) was now input left seen → Tells bare all_cables_so_far was now input left
-        seen
+    seen
 each-tells was now input left seen tells = tells-as bare (all_known (usb each_cable) 16) all_cables_so_far was now input
     left seen each_law tells
 
@@ -45,49 +45,49 @@ each-is h p e low =
 pub then-due : (was : List ℕ → List Ported → Type 0) (start input : List ℕ) (p q : Packets) (dins : List State)
     (x : Note) → Tells bare all_cables_so_far was (UsbHolds p dins) start input [] →
     p.due ≡ Some x → q ≡ record p { due = None } → Tells bare all_cables_so_far was (UsbHolds q dins) start input
-        (port_answer (Some (Unit x)))
+    (port_answer (Some (Unit x)))
 then-due was start input p q dins x tells due same =
     tells-trans bare all_cables_so_far was (UsbHolds p dins) (UsbHolds q dins) start input input []
-        (port_answer (Some (Unit x))) tells
+    (port_answer (Some (Unit x))) tells
     (each-tells (UsbHolds p dins) (UsbHolds q dins) input input (port_answer (Some (Unit x)))
-        (step-due each_cable 16 each_low p q (reader_at dins) x input due same))
+    (step-due each_cable 16 each_low p q (reader_at dins) x input due same))
 
 pub then-pass : (was : List ℕ → List Ported → Type 0) (start input rest : List ℕ) (p q r : Packets) (dins : List State)
     (b : ℕ) → Tells bare all_cables_so_far was (UsbHolds p dins) start input [] →
     p.due ≡ None → q ≡ record p { due = None } → left_of q.under ≡ 0 → r ≡ packet_after q b → input ≡ b ∷ rest →
-        Tells bare all_cables_so_far was (UsbHolds r dins) start rest []
+    Tells bare all_cables_so_far was (UsbHolds r dins) start rest []
 then-pass was start input rest p q r dins b tells due same none after first =
     tells-trans bare all_cables_so_far was (UsbHolds p dins) (UsbHolds r dins) start input rest [] [] tells
     (subst (λ (z : List ℕ → List Ported → Type 0). Tells bare all_cables_so_far z (UsbHolds r dins) input rest [])
-        (sym (undue p q dins due same))
+    (sym (undue p q dins due same))
     (each-tells (UsbHolds q dins) (UsbHolds r dins) input rest [] (step-pass each_cable 16 each_low q r (reader_at dins)
-        b input rest (ap (λ (z : Packets). z.due) same) (not-carried (left_of q.under)
-        (each_cable (head_of q.under / 16)) none) after first)))
+    b input rest (ap (λ (z : Packets). z.due) same) (not-carried (left_of q.under)
+    (each_cable (head_of q.under / 16)) none) after first)))
 
 pub then-carry : (was : List ℕ → List Ported → Type 0) (start input rest left : List ℕ) (p q r : Packets)
     (dins next : List State) (port b : ℕ) (seen : Option Seen) → Tells bare all_cables_so_far was (UsbHolds p dins)
     start input [] →
     p.due ≡ None → q ≡ record p { due = None } → left_of q.under ≢ 0 → port ≡ head_of q.under / 16 → port < 16 →
-        input ≡ b ∷ rest → Hands q r (reader_at dins port) (reader_at next port) input left (answer seen) →
+    input ≡ b ∷ rest → Hands q r (reader_at dins port) (reader_at next port) input left (answer seen) →
     ((c : ℕ) → (c ≡ port → ⊥) → reader_at next c ≡ reader_at dins c) → Tells bare all_cables_so_far was
-        (UsbHolds r next) start left (map (λ t. (Some port, t)) (answer seen))
+    (UsbHolds r next) start left (map (λ t. (Some port, t)) (answer seen))
 then-carry was start input rest left p q r dins next port b seen tells due same over at low first hands others =
     let told = map (λ t. (Some port, t)) (answer seen) in
     tells-trans bare all_cables_so_far was (UsbHolds p dins) (UsbHolds r next) start input left [] told tells
     (subst (λ (z : List ℕ → List Ported → Type 0). Tells bare all_cables_so_far z (UsbHolds r next) input left told)
-        (sym (undue p q dins due same))
+    (sym (undue p q dins due same))
     (each-tells (UsbHolds q dins) (UsbHolds r next) input left told
     (step-carry each_cable 16 each_low q r (reader_at dins) (reader_at next) port b input rest left (answer seen)
-        (ap (λ (z : Packets). z.due) same)
+    (ap (λ (z : Packets). z.due) same)
     (carried-by (left_of q.under) (each_cable (head_of q.under / 16)) port over (each-is (head_of q.under / 16) port at
-        low)) over first hands (λ c low_port apart. others c apart))))
+    low)) over first hands (λ c low_port apart. others c apart))))
 
 pub then-none : (was : List ℕ → List Ported → Type 0) (start input : List ℕ) (p q : Packets) (dins : List State) →
     Tells bare all_cables_so_far was (UsbHolds p dins) start input [] →
     p.due ≡ None → q ≡ record p { due = None } → Tells bare all_cables_so_far was (UsbHolds q dins) start input []
 then-none was start input p q dins tells due same =
     subst (λ (z : List ℕ → List Ported → Type 0). Tells bare all_cables_so_far was z start input [])
-        (undue p q dins due same) tells
+    (undue p q dins due same) tells
 
 pub then-all_told : (was : List ℕ → List Ported → Type 0) (start input : List ℕ) (q : Packets) (dins : List State) →
     Tells bare all_cables_so_far was (UsbHolds q dins) start input [] →
@@ -96,7 +96,7 @@ then-all_told was start input q dins tells due none =
     all_told-as (all_known (usb each_cable) 16) all_cables_so_far was start each_law
     (step-none each_cable 16 q (reader_at dins) was start due
     (tells-as bare all_cables_so_far (all_known (usb each_cable) 16) was (UsbHolds q dins) start [] [] (λ bs.
-        sym (each_law bs))
+    sym (each_law bs))
     (subst (λ (z : List ℕ). Tells bare all_cables_so_far was (UsbHolds q dins) start z []) none tells)))
 
 pub begins : (p : Packets) (dins : List State) (input : List ℕ) → Tells bare all_cables_so_far (UsbHolds p dins)

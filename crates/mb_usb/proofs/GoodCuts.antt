@@ -81,11 +81,11 @@ good_short_by : (s a b : ℕ) (k : Kind) → kind s ≡ k → Fits_kind k a b �
 good_short_by s a b (ChannelKind n) e f =
     good_need (cin_of_short s) s (count_of n) a b n refl
     (status_facts s (count_of n) ((facts s).is_realtime ∙ ap is_realtime_kind e) ((facts s).data_length ∙
-        ap length_of_kind e)) f
+    ap length_of_kind e)) f
 good_short_by s a b (CommonKind n) e f =
     good_need (cin_of_short s) s (count_of n) a b n refl
     (status_facts s (count_of n) ((facts s).is_realtime ∙ ap is_realtime_kind e) ((facts s).data_length ∙
-        ap length_of_kind e)) f
+    ap length_of_kind e)) f
 good_short_by s a b TuneKind e f =
     let t : NumberFacts (cin_of_short s) s 0 =
     status_facts s 0 ((facts s).is_realtime ∙ ap is_realtime_kind e) ((facts s).data_length ∙ ap length_of_kind e) in
@@ -100,7 +100,7 @@ good_short_by s a b OtherRtKind e f = absurd f
 good_short : (s a b : ℕ) → Fits_kind (kind s) a b → IsGood (cut (cin_of_short s) (s ∷ data_of s a b))
 good_short s a b f =
     subst (λ n. IsGood (cut (cin_of_short s) (s ∷ data_by_length n a b))) (sym (facts s).data_length)
-        (good_short_by s a b (kind s) refl f)
+    (good_short_by s a b (kind s) refl f)
 
 good_single : (b : ℕ) → IsGood (cut 15 (b ∷ []))
 good_single b = record { low = lit< tt; unreserved = lit< tt; uses = refl; three = omega arith; suits = refl }
@@ -113,8 +113,14 @@ good_singles (b ∷ p) = (good_single b, good_singles p)
 good_three : (x y b : ℕ) → starts_or_goes_on x ≡ true → is_data y ≡ true → is_data b ≡ true →
     IsGood (cut 4 (x ∷ y ∷ b ∷ []))
 good_three x y b hx hy hb =
-    record { low = lit< tt; unreserved = lit< tt; uses = refl; three = omega arith; suits =
-        and_from _ _ (and_from _ _ hx hy) hb }
+    record {
+      low = lit< tt;
+      unreserved = lit< tt;
+      uses = refl;
+      three = omega arith;
+      suits =
+          and_from _ _ (and_from _ _ hx hy) hb;
+    }
 
 -- The bytes that wait: the first may be the start, none is an end. None waits where no SysEx is open.
 abbrev Few : List ℕ → Type 0
@@ -130,11 +136,23 @@ Waits_few false (x ∷ p) = ⊥
 
 good_end : (p : List ℕ) → Few p → IsGood (cut (5 + length p) (p ++ 0xf7 ∷ []))
 good_end [] h = record { low = lit< tt; unreserved = lit< tt; uses = refl; three = omega arith; suits = refl }
-good_end (x ∷ []) h = record { low = lit< tt; unreserved = lit< tt; uses = refl; three = omega arith; suits =
-    and_from _ _ h refl }
+good_end (x ∷ []) h = record {
+  low = lit< tt;
+  unreserved = lit< tt;
+  uses = refl;
+  three = omega arith;
+  suits =
+      and_from _ _ h refl;
+}
 good_end (x ∷ y ∷ []) h =
-    record { low = lit< tt; unreserved = lit< tt; uses = refl; three = omega arith; suits =
-        and_from _ _ (and_from _ _ h.0 h.1) refl }
+    record {
+      low = lit< tt;
+      unreserved = lit< tt;
+      uses = refl;
+      three = omega arith;
+      suits =
+          and_from _ _ (and_from _ _ h.0 h.1) refl;
+    }
 good_end (x ∷ y ∷ z ∷ p) h = absurd h
 
 starts-data : (b : ℕ) → is_data b ≡ true → starts_or_goes_on b ≡ true

@@ -48,17 +48,17 @@ packet_behind-offset p (b ∷ bs) = let e : p.offset + 1 + length bs ≡ p.offse
 pub hands-kept : (was now : Packets) (reader put next : State) (input piece kept taken behind : List ℕ) (n : ℕ)
     (answer : List Told) →
     piece ≡ take (min (length input) (left_of was.under)) input → put ≡ placed was reader →
-        IsFrontTaken put next piece kept →
+    IsFrontTaken put next piece kept →
     n ≡ length piece - length kept → taken ≡ take n input → behind ≡ drop n input → now ≡ packet_behind was taken →
     ((es : List Entry) → Stands reader es (so_far es) → Stands put es (so_far es)) →
-        NextSays put next piece kept answer →
+    NextSays put next piece kept answer →
     (h : Hands was now reader next input behind answer) × (h.kept ≡ kept)
 hands-kept was now reader put next input piece kept taken behind n answer p at front count t l passed stays says =
     let left = left_of was.under in
     let piece_is : piece ≡ piece_of was input = p ∙ take-min input left in
     let all : input ≡ front.0 ++ (kept ++ drop left input) =
     sym (take-append-drop left input) ∙ (ap (λ z. z ++ drop left input) (sym piece_is ∙ front.1) ∙
-        append_assoc front.0 kept (drop left input)) in
+    append_assoc front.0 kept (drop left input)) in
     let many : n ≡ length front.0 = omega (arith, ap length front.1, length-append front.0 kept) in
     let taken_is : taken ≡ front.0 = t ∙ (ap₂ take many all ∙ take-append_seam front.0 (kept ++ drop left input)) in (
       record {
@@ -81,11 +81,11 @@ pub hands-end : (was now : Packets) (reader next : State) (input left : List ℕ
 hands-end was now reader next input left answer h =
     let rest = drop (left_of was.under) input in
     let at : now.offset ≡ was.offset + length h.taken = ap (λ (z : Packets). z.offset) h.packet ∙
-        packet_behind-offset was h.taken in
+    packet_behind-offset was h.taken in
     let all : length input ≡ length (piece_of was input) + length rest =
-        ap length (sym (take-append-drop (left_of was.under) input)) ∙ length-append (piece_of was input) rest in
+    ap length (sym (take-append-drop (left_of was.under) input)) ∙ length-append (piece_of was input) rest in
     let piece : length (piece_of was input) ≡ length h.taken + length h.kept = ap length h.piece ∙
-        length-append h.taken h.kept in
+    length-append h.taken h.kept in
     let behind : length left ≡ length h.kept + length rest = ap length h.left_is ∙ length-append h.kept rest in
     omega arith
 

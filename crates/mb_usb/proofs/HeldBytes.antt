@@ -95,12 +95,12 @@ early b (OpenSign ∷ zs) xs h =
     (Same-cons OpenSign (RtSign b ∷ (zs ++ xs)) (zs ++ RtSign b ∷ xs) (early b zs xs h))
 early b (ByteSign d ∷ zs) xs h =
     Same-trans (RtSign b ∷ ByteSign d ∷ (zs ++ xs)) (ByteSign d ∷ RtSign b ∷ (zs ++ xs)) (ByteSign d ∷
-        (zs ++ RtSign b ∷ xs))
+    (zs ++ RtSign b ∷ xs))
     (record { items = λ o. early-byte_items o b d (zs ++ xs); realtimes = λ o n. refl; lengths = refl })
     (Same-cons (ByteSign d) (RtSign b ∷ (zs ++ xs)) (zs ++ RtSign b ∷ xs) (early b zs xs h))
 early b (AbortSign ∷ zs) xs h =
     Same-trans (RtSign b ∷ AbortSign ∷ (zs ++ xs)) (AbortSign ∷ RtSign b ∷ (zs ++ xs))
-        (AbortSign ∷ (zs ++ RtSign b ∷ xs))
+    (AbortSign ∷ (zs ++ RtSign b ∷ xs))
     (record { items = λ o. early-abort_items o b (zs ++ xs); realtimes = λ o n. refl; lengths = refl })
     (Same-cons AbortSign (RtSign b ∷ (zs ++ xs)) (zs ++ RtSign b ∷ xs) (early b zs xs h))
 early b (ShortSign s a c ∷ zs) xs h = absurd h
@@ -158,9 +158,9 @@ rt_passes r b p xs ys e h same =
     subst₂ (λ x y. Same x y) (sym (rt_first r b xs e))
     (sym (read-append r p (b ∷ ys) ∙ ap (λ zs. tell r p ++ zs) (rt_first (behind r p) b ys e)))
     (Same-trans (RtSign b ∷ read r xs) (RtSign b ∷ (tell r p ++ read (behind r p) ys)) (tell r p ++
-        RtSign b ∷ read (behind r p) ys)
+    RtSign b ∷ read (behind r p) ys)
     (Same-cons (RtSign b) (read r xs) (tell r p ++ read (behind r p) ys) (subst (λ y. Same (read r xs) y)
-        (read-append r p ys) same))
+    (read-append r p ys) same))
     (early b (tell r p) (read (behind r p) ys) h.passes))
 
 held-full : (ms : List Sign) (o : Bool) (r : Reader) (p : List ℕ) → HoldsBytes o r p → Suit o ms →
@@ -169,7 +169,7 @@ held-full [] false r [] h su = Same-refl (read r [])
 held-full [] true r p h su = Same-equal (read r p) (read r (p ++ [])) (ap (λ bs. read r bs) (sym (append-nil p)))
 held-full (ShortSign s a b ∷ ms) false r [] h su =
     same_after r (s ∷ data_of s a b) (held_back [] ms) (full_bytes ms)
-        (held-full ms false (behind r (s ∷ data_of s a b)) [] tt su.1)
+    (held-full ms false (behind r (s ∷ data_of s a b)) [] tt su.1)
 held-full (ShortSign s a b ∷ ms) true r p h su = absurd su.0
 held-full (RtSign b ∷ ms) false r [] h su =
     same_after r (b ∷ []) (held_back [] ms) (full_bytes ms) (held-full ms false (behind r (b ∷ [])) [] tt su.1)
@@ -180,9 +180,9 @@ held-full (OpenSign ∷ ms) true r p h su = absurd su.0
 held-full (ByteSign b ∷ ms) false r p h su = absurd su.0
 held-full (ByteSign b ∷ ms) true r p h su =
     let Goal : Bool → Type 0 = λ c. Same (read r (if c then p ++ b ∷ held_back [] ms else held_back (p ++ b ∷ []) ms))
-        (read r (p ++ b ∷ full_bytes ms)) in
+    (read r (p ++ b ∷ full_bytes ms)) in
     let later : Same (read (behind (behind r p) (b ∷ [])) (held_back [] ms)) (read (behind (behind r p) (b ∷ []))
-        (full_bytes ms)) =
+    (full_bytes ms)) =
     held-full ms true (behind (behind r p) (b ∷ [])) []
     (record { passes = tt; inside = inside-data (behind r p) b h.inside su.0 }) su.1 in
     let kept : Same (read r (held_back (p ++ b ∷ []) ms)) (read r ((p ++ b ∷ []) ++ full_bytes ms)) =

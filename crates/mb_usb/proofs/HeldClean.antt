@@ -67,11 +67,11 @@ clean-held [] Opened r p h su = Clean-quiet r p h.quiet (ap is_begun h.inside)
 clean-held (ShortSign s a b ∷ ms) Closed r [] h su =
     let x : Step false None r Closed (ShortSign s a b) = step false None r Closed (ShortSign s a b) h su.0 in
     clean_step r Closed (ShortSign s a b) x (held_back [] ms) (clean-held ms Closed x.next [] (Meets-any _ x.next Closed
-        x.meets) su.1)
+    x.meets) su.1)
 clean-held (ShortSign s a b ∷ ms) Broke r [] h su =
     let x : Step false None r Broke (ShortSign s a b) = step false None r Broke (ShortSign s a b) h su.0 in
     clean_step r Broke (ShortSign s a b) x (held_back [] ms) (clean-held ms Closed x.next [] (Meets-any _ x.next Closed
-        x.meets) su.1)
+    x.meets) su.1)
 clean-held (ShortSign s a b ∷ ms) Opened r p h su = absurd su.0
 clean-held (RtSign b ∷ ms) Closed r [] h su = rt_clean r b (held_back [] ms) su.0 (clean-held ms Closed r [] h su.1)
 clean-held (RtSign b ∷ ms) Broke r [] h su = rt_clean r b (held_back [] ms) su.0 (clean-held ms Broke r [] h su.1)
@@ -83,10 +83,13 @@ clean-held (ByteSign b ∷ ms) Opened r p h su =
     let Goal : Bool → Type 0 = λ c. Clean r (if c then p ++ b ∷ held_back [] ms else held_back (p ++ b ∷ []) ms) in
     let quiet : Quiet (behind r p) (b ∷ []) = inside_quiet (behind r p) b h.inside su.0 in
     let later : Clean (behind (behind r p) (b ∷ [])) (held_back [] ms) =
-    clean-held ms Opened (behind (behind r p) (b ∷ [])) [] (record { quiet = tt; inside =
-        ap₂ (λ x k. after x k b) h.inside su.0 }) su.1 in
+    clean-held ms Opened (behind (behind r p) (b ∷ [])) [] (record {
+      quiet = tt;
+      inside =
+          ap₂ (λ x k. after x k b) h.inside su.0;
+    }) su.1 in
     let kept : Clean r (held_back (p ++ b ∷ []) ms) = clean-held ms Opened r (p ++ b ∷ []) (Silent-push r p b h su.0)
-        su.1 in
+    su.1 in
     elim (length p == 2) as Goal [
       | true ↦ Clean-append r p (b ∷ held_back [] ms) h.quiet (Clean-append (behind r p) (b ∷ []) (held_back [] ms)
           quiet later)

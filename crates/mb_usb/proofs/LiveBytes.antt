@@ -30,7 +30,7 @@ cuts-live p [] = refl
 cuts-live p (m ∷ ms) =
     ap (λ z. cuts_at p m ++ z) (cuts-live (pending_after p m) ms)
     ∙ sym (append_assoc (cuts_at p m) (live_cuts (pending_after p m) ms)
-        (singles (pending_from (pending_after p m) ms)))
+    (singles (pending_from (pending_after p m) ms)))
 
 abbrev pub live_bytes : List ℕ → List Sign → List ℕ
 live_bytes p ms = cut_bytes (live_cuts p ms)
@@ -82,7 +82,7 @@ held-after (ByteSign b ∷ ms) true r p h su =
     let Goal : Bool → Type 0 = λ c.
     HoldsBytes (open_from true ms)
     (behind r (cut_bytes ((if c then cut 4 (p ++ b ∷ []) ∷ [] else []) ++ live_cuts (if c then [] else p ++ b ∷ [])
-        ms)))
+    ms)))
     (pending_from (if c then [] else p ++ b ∷ []) ms) in
     let more : Waiting r (p ++ b ∷ []) = Waiting-push r p b h su.0 in
     let later = held-after ms true (behind r (p ++ b ∷ [])) [] (record { passes = tt; inside = more.inside }) su.1 in

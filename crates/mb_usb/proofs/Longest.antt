@@ -38,7 +38,7 @@ left-behind p [] h = omega arith
 left-behind p (b ∷ bs) h =
     let one : left_of (packet_after p b).under ≡ left_of p.under - 1 = left-after p.under b (omega arith) in
     let rest : left_of (packet_behind (packet_after p b) bs).under ≡ left_of (packet_after p b).under - length bs =
-        left-behind (packet_after p b) bs (omega arith) in
+    left-behind (packet_after p b) bs (omega arith) in
     omega arith
 
 -- what was not taken of the piece is what still stands there of the packet's bytes
@@ -46,16 +46,20 @@ pub kept-is : (was now : Packets) (r s : State) (input left : List ℕ) (told : 
     left told) → take (left_of now.under) left ≡ h.kept
 kept-is was now r s input left told h =
     let many = left_of was.under in
-    let lengths : length h.taken + length h.kept ≡ min many (length input) = omega (arith, length-append h.taken h.kept,
-        ap length h.piece, length-take many input) in
+    let lengths : length h.taken + length h.kept ≡ min many (length input) = omega (
+      arith,
+      length-append h.taken h.kept,
+      ap length h.piece,
+      length-take many input,
+    ) in
     let less : left_of now.under ≡ many - length h.taken = ap (λ (z : Packets). left_of z.under) h.packet ∙
-        left-behind was h.taken (omega arith) in
+    left-behind was h.taken (omega arith) in
     ap₂ take less h.left_is ∙
     (elim (cases_lt (length input) many) [
       | inl short ↦
           ap (λ z. take (many - length h.taken) (h.kept ++ z)) (drop-all many input (omega arith)) ∙
           (ap (take (many - length h.taken)) (append-nil h.kept) ∙ take-all (many - length h.taken) h.kept
-              (omega arith))
+          (omega arith))
       | inr long ↦
           let all : many - length h.taken ≡ length h.kept = omega arith in
           ap (λ z. take z (h.kept ++ drop many input)) all ∙ take-append_seam h.kept (drop many input)

@@ -25,7 +25,7 @@ Sofar-nothing w had = record {
   stands = λ marks s. subst (Stands w) (sym (append-nil marks)) s;
   written = λ marks s.
       subst (λ (ms : List Sign). Appended had had (usb_live w.cable marks) (usb_live w.cable ms))
-          (sym (append-nil marks))
+      (sym (append-nil marks))
       (Appended-nothing had (usb_live w.cable marks));
 }
 
@@ -39,7 +39,7 @@ pub Sofar-more : (old mid new : Writer) (had has now taken piece : List ℕ) →
     new.cable ≡ mid.cable →
     ((marks : List Sign) → Stands mid marks → Stands new (marks ++ map ByteSign piece)) →
     ((marks : List Sign) → Stands mid marks → Appended has now (usb_live mid.cable marks) (usb_live mid.cable (marks ++
-        map ByteSign piece))) →
+    map ByteSign piece))) →
     Sofar old new had now (taken ++ piece)
 Sofar-more old mid new had has now taken piece so_far cable stands written = record {
   cable = cable ∙ so_far.cable;
@@ -48,13 +48,13 @@ Sofar-more old mid new had has now taken piece so_far cable stands written = rec
   written = λ marks s.
       let ms = marks ++ map ByteSign taken in
       let call = subst (λ (c : ℕ). Appended has now (usb_live c ms) (usb_live c (ms ++ map ByteSign piece)))
-          so_far.cable
+      so_far.cable
       (written ms (so_far.stands marks s)) in
       Appended-then had has now (usb_live old.cable marks) (usb_live old.cable ms) (usb_live old.cable (marks ++
-          map ByteSign (taken ++ piece)))
+      map ByteSign (taken ++ piece)))
       (so_far.written marks s)
       (subst (λ (longer : List Sign). Appended has now (usb_live old.cable ms) (usb_live old.cable longer))
-          (taken-more marks taken piece) call);
+      (taken-more marks taken piece) call);
 }
 
 -- data suits where a SysEx is open

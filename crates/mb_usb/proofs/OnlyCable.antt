@@ -68,7 +68,7 @@ pub then-due : (c : ℕ) (a p q : Packets) (x r : State) (start input : List ℕ
     OnlyTells c a x q r start input ((None, Notes n.at n.kind) ∷ [])
 then-due c a p q x r start input n before due same =
     join c a p q x r r start input input ((None, Notes n.at n.kind) ∷ []) before (step-due (only_cable c) 1 (only_low c)
-        p q (λ _. r) n input due same)
+    p q (λ _. r) n input due same)
 
 pub then-none : (c : ℕ) (a p q : Packets) (x r : State) (start input : List ℕ) → OnlyTells c a x p r start input [] →
     p.due ≡ None → q ≡ record p { due = None } → OnlyTells c a x q r start input []
@@ -81,7 +81,7 @@ pub kept-tells : (c : ℕ) (a p : Packets) (x r s : State) (start input left : L
     [] → s ≡ r → left ≡ input → OnlyTells c a x p s start left []
 kept-tells c a p x r s start input left before e f =
     subst (λ (z : State). OnlyTells c a x p z start left []) (sym e) (subst (λ (z : List ℕ).
-        OnlyTells c a x p r start z []) (sym f) before)
+    OnlyTells c a x p r start z []) (sym f) before)
 
 pub kept-behind : (p : Packets) (r s : State) → IsBehind p r → s ≡ r → IsBehind p s
 kept-behind p r s h e = subst (λ (z : State). IsBehind p z) (sym e) h
@@ -90,7 +90,7 @@ pub kept-owes : (c : ℕ) (p : Packets) (r s : State) (input left : List ℕ) (m
     r ≤ most → s ≡ r → left ≡ input → 2 * length left + owed_alone c p s ≤ most
 kept-owes c p r s input left most h e f =
     subst (λ (z : State). 2 * length left + owed_alone c p z ≤ most) (sym e) (subst (λ (z : List ℕ).
-        2 * length z + owed_alone c p r ≤ most) (sym f) h)
+    2 * length z + owed_alone c p r ≤ most) (sym f) h)
 
 abbrev only_if : Bool → Option ℕ
 only_if t = if t then Some 0 else None
@@ -120,7 +120,7 @@ pub then-pass : (c : ℕ) (a p q t : Packets) (x r : State) (start input rest : 
 then-pass c a p q t x r start input rest b before due same over after first =
     join c a q t x r r start input rest [] (then-none c a p q x r start input before due same)
     (step-pass (only_cable c) 1 (only_low c) q t (λ _. r) b input rest (ap (λ (z : Packets). z.due) same)
-        (passed c q over) after first)
+    (passed c q over) after first)
 
 pub only-is : (c h : ℕ) → h ≡ c → only_cable c h ≡ Some 0
 only-is c h e = ap (λ (t : Bool). if t then Some 0 else None) (eq-eqb h c e)
@@ -128,15 +128,15 @@ only-is c h e = ap (λ (t : Bool). if t then Some 0 else None) (eq-eqb h c e)
 pub then-carry : (c : ℕ) (a p q t : Packets) (x r s : State) (start input rest left : List ℕ) (b : ℕ)
     (seen : Option Seen) → OnlyTells c a x p r start input [] → p.due ≡ None → q ≡ record p { due = None } →
     is_of_cable c q.under ≡ true → input ≡ b ∷ rest → Hands q t r s input left (answer seen) →
-        OnlyTells c a x t s start left (map (λ y. (Some 0, y)) (answer seen))
+    OnlyTells c a x t s start left (map (λ y. (Some 0, y)) (answer seen))
 then-carry c a p q t x r s start input rest left b seen before due same of_it first hands =
     let facts : (left_of q.under ≢ 0) × (head_of q.under / 16 ≡ c) = is-of c q.under of_it in
     join c a q t x r s start input left (map (λ y. (Some 0, y)) (answer seen)) (then-none c a p q x r start input before
-        due same)
+    due same)
     (step-carry (only_cable c) 1 (only_low c) q t (λ _. r) (λ _. s) 0 b input rest left (answer seen)
-        (ap (λ (z : Packets). z.due) same)
+    (ap (λ (z : Packets). z.due) same)
     (carried-by (left_of q.under) (only_cable c (head_of q.under / 16)) 0 facts.0 (only-is c (head_of q.under / 16)
-        facts.1)) facts.0 first hands
+    facts.1)) facts.0 first hands
     (λ d low apart. let none : d ≡ 0 = omega arith in absurd (apart none)))
 
 -- The clauses.
@@ -146,9 +146,9 @@ pub tells-literal : (c : ℕ) (a q : Packets) (x s : State) (start left : List �
     Tells bare_told (cable_so_far c) (CableHolds c a x) (CableHolds c q s) start left told
 tells-literal c a q x s start left seen told e h =
     tells-as bare_told (one_known (usb (only_cable c))) (cable_so_far c) (CableHolds c a x) (CableHolds c q s) start
-        left told (only_law c)
+    left told (only_law c)
     (tells-one (usb (only_cable c)) (only_low c) (whole_of a (λ _. x)) (whole_of q (λ _. s)) start left seen told e
-        h.tells)
+    h.tells)
 
 pub tolds : (ts : List Told) → map (λ (y : Option ℕ × Told). y.1) (map (λ y. (Some 0, y)) ts) ≡ ts
 tolds [] = refl
@@ -158,9 +158,9 @@ pub all_told-literal : (c : ℕ) (a q : Packets) (x s : State) (start input : Li
     [] → q.due ≡ None → input ≡ [] → AllTold (cable_so_far c) (CableHolds c a x) start
 all_told-literal c a q x s start input h due none bytes told holds front =
     let nothing : Tells bare (only_known c) (OnlyHolds c a x) (OnlyHolds c q s) start [] [] =
-        subst (λ (z : List ℕ). Tells bare (only_known c) (OnlyHolds c a x) (OnlyHolds c q s) start z []) none h.tells in
+    subst (λ (z : List ℕ). Tells bare (only_known c) (OnlyHolds c a x) (OnlyHolds c q s) start z []) none h.tells in
     all_told-one (usb (only_cable c)) (only_low c) (whole_of a (λ _. x)) start (step-none (only_cable c) 1 q (λ _.
-        s) (OnlyHolds c a x) start due nothing) bytes told holds (front.0, only_law c (bytes ++ start) ∙ front.1) ∙
+    s) (OnlyHolds c a x) start due nothing) bytes told holds (front.0, only_law c (bytes ++ start) ∙ front.1) ∙
     only_law c (bytes ++ start)
 
 abbrev pub cable_state : ℕ → Packets → State → CableState
@@ -169,7 +169,7 @@ cable_state cable packet reader = record { cable = cable; packet = packet; reade
 pub next-tells : (was : CableState) (c : ℕ) (p q : Packets) (r s : State) (input left : List ℕ) (told : List Told) →
     cable_state c p r ≡ was →
     Tells bare_told (cable_so_far c) (CableHolds c p r) (CableHolds c q s) input left told →
-        CableTells was (cable_state c q s) input left told
+    CableTells was (cable_state c q s) input left told
 next-tells was c p q r s input left told e tells = subst (λ (z : CableState). CableTells z (cable_state c q s) input
     left told) e tells
 
@@ -190,14 +190,14 @@ new-stands c p r e fresh = record {
 pub finish-told : (was : CableState) (c : ℕ) (p : Packets) (r : State) (told : List Told) → cable_state c p r ≡ was →
     ((es : List Entry) → Stands r es (so_far es) → told ≡ at_end (last_of es)) →
     (bytes : List ℕ) → CableStands was bytes (cable_so_far was.cable bytes) →
-        told ≡ at_end (last_of (cable_payload was.cable bytes))
+    told ≡ at_end (last_of (cable_payload was.cable bytes))
 finish-told was c p r told e says bytes h =
     let holds : CableHolds c p r bytes (cable_so_far c bytes) = subst (λ (s : CableState).
-        CableStands s bytes (cable_so_far s.cable bytes)) (sym e) h in
+    CableStands s bytes (cable_so_far s.cable bytes)) (sym e) h in
     let stands = finish-one (usb (only_cable c)) (only_low c) (whole_of p (λ _. r)) bytes
-        (subst (CableHolds c p r bytes) (sym (only_law c bytes)) holds) in
+    (subst (CableHolds c p r bytes) (sym (only_law c bytes)) holds) in
     let own : Stands r (cable_payload c bytes) (so_far (cable_payload c bytes)) = subst (λ es. Stands r es (so_far es))
-        (only-payload c bytes) stands in
+    (only-payload c bytes) stands in
     says (cable_payload c bytes) own ∙ ap (λ (s : CableState). at_end (last_of (cable_payload s.cable bytes))) e
 
 pub partial-is : (was : CableState) (c : ℕ) (p : Packets) (r : State) (result : ℕ) → cable_state c p r ≡ was →
@@ -243,7 +243,7 @@ falls c p r behind input owes most less h = omega (arith, owed-bound c p r)
 pub carry-owed : (c : ℕ) (p t : Packets) (r s : State) (input left : List ℕ) (told : List Told)
     (h : Hands p t r s input left told) → p.due ≡ None → is_of_cable c p.under ≡ true →
     2 * length left + din.owed s < 2 * length input + din.owed r → 2 * length left + owed_alone c t s < 2 *
-        length input + owed_alone c p r
+    length input + owed_alone c p r
 carry-owed c p t r s input left told h due of_it less = by_taken h.taken h.packet lengths where
   if_one : Bool → ℕ
   if_one b = if b then 1 else 0
@@ -252,14 +252,18 @@ carry-owed c p t r s input left told h due of_it less = by_taken h.taken h.packe
   one = ap if_one of_it
 
   lengths : length left + length h.taken ≡ length input
-  lengths = omega (arith, hands-end p t r s input left told h, ap (λ (z : Packets). z.offset) h.packet,
-      packet_behind-offset p h.taken)
+  lengths = omega (
+    arith,
+    hands-end p t r s input left told h,
+    ap (λ (z : Packets). z.offset) h.packet,
+    packet_behind-offset p h.taken,
+  )
 
   by_taken : (taken : List ℕ) → t ≡ packet_behind p taken → length left + length taken ≡ length input →
       2 * length left + owed_alone c t s < 2 * length input + owed_alone c p r
   by_taken [] e l =
       let old : owed_alone c p r ≡ din.owed r = ap₂ (λ (d : Option Note) (n : ℕ). owed_by d n (din.owed r)) due one in
       let new : owed_alone c t s ≡ din.owed s = ap (λ (z : Packets). owed_alone c z s) e ∙
-          ap₂ (λ (d : Option Note) (n : ℕ). owed_by d n (din.owed s)) due one in
+      ap₂ (λ (d : Option Note) (n : ℕ). owed_by d n (din.owed s)) due one in
       omega (arith, old, new)
   by_taken (b ∷ bs) e l = omega (arith, owed-bound c t s)

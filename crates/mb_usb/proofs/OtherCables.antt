@@ -70,9 +70,12 @@ of_part cable end [] = tt
 of_part cable end (x ∷ []) =
     let Goal : Bool → Type 0 = λ t.
     AreOf cable (if t then at_place x.place (packet cable 5 (x.thing ∷ [])) ∷ [] else at_place end
-        (single cable x.thing) ∷ []) in
-    elim (x.thing == 0xf7) as Goal [ true ↦ (of_packet cable 5 (x.thing ∷ []) (lit< tt), tt) | false ↦
-        (of_single cable x.thing, tt) ]
+    (single cable x.thing) ∷ []) in
+    elim (x.thing == 0xf7) as Goal [
+      | true ↦ (of_packet cable 5 (x.thing ∷ []) (lit< tt), tt)
+      | false ↦
+          (of_single cable x.thing, tt)
+    ]
 of_part cable end (x ∷ y ∷ []) =
     let Goal : Bool → Type 0 = λ t.
     AreOf cable (if t then at_place y.place (packet cable 6 (x.thing ∷ y.thing ∷ [])) ∷ []
@@ -83,15 +86,20 @@ of_part cable end (x ∷ y ∷ []) =
     ]
 of_part cable end (x ∷ y ∷ z ∷ xs) =
     let bytes : List ℕ = x.thing ∷ y.thing ∷ z.thing ∷ [] in
-    let Goal : Bool → Type 0 = λ t. IsOf cable (packet cable (if t then 7 else 4) bytes) in
-    (elim (z.thing == 0xf7) as Goal [ true ↦ of_packet cable 7 bytes (lit< tt) | false ↦ of_packet cable 4 bytes
-        (lit< tt) ], tt)
+    let Goal : Bool → Type 0 = λ t. IsOf cable (packet cable (if t then 7 else 4) bytes) in (
+      elim (z.thing == 0xf7) as Goal [
+        | true ↦ of_packet cable 7 bytes (lit< tt)
+        | false ↦ of_packet cable 4 bytes
+            (lit< tt)
+      ],
+      tt,
+    )
 
 of_parts : (cable end : ℕ) (parts : List (List (Placed ℕ))) → AreOf cable (flat_map (part_packets cable end) parts)
 of_parts cable end [] = tt
 of_parts cable end (xs ∷ parts) =
     AreOf-append cable (part_packets cable end xs) (flat_map (part_packets cable end) parts) (of_part cable end xs)
-        (of_parts cable end parts)
+    (of_parts cable end parts)
 
 of_packets : (cable i : ℕ) (ms : List Sign) → AreOf cable (usb_packets cable i ms)
 of_packets cable i [] = tt
@@ -102,7 +110,7 @@ of_packets cable i (OpenSign ∷ ms) =
     let end : ℕ = end_of_sysex (i + 1) ms in
     let bytes : List (Placed ℕ) = at_place i 0xf0 ∷ rest_of_sysex (i + 1) ms in
     AreOf-append cable (sysex_packets cable end bytes) (usb_packets cable (i + 1) ms)
-        (of_parts cable end (threes bytes)) (of_packets cable (i + 1) ms)
+    (of_parts cable end (threes bytes)) (of_packets cable (i + 1) ms)
 of_packets cable i (ByteSign b ∷ ms) = of_packets cable (i + 1) ms
 of_packets cable i (EndSign ∷ ms) = of_packets cable (i + 1) ms
 of_packets cable i (AbortSign ∷ ms) = of_packets cable (i + 1) ms
@@ -118,9 +126,9 @@ silent-packet cable other number at bytes more apart low =
     let p : EventPacket = record { at = at; head = cable * 16 + number; rest = padded bytes } in
     let of : cable_of p ≡ cable = omega arith in
     ap (λ ps. flat_map (λ q. if cable_of q == other then heard_in q else []) ps)
-        (packets-padded at (cable * 16 + number) bytes more)
+    (packets-padded at (cable * 16 + number) bytes more)
     ∙ ap (λ t. (if t then heard_in p else []) ++ carried_at other (at + 4) more) (ne_eqb (cable_of p) other (λ e.
-        apart (sym e ∙ of)))
+    apart (sym e ∙ of)))
 
 silent-from : (cable other at : ℕ) (xs : List (Placed (List ℕ))) → (other ≡ cable → ⊥) → AreOf cable xs →
     carried_at other at (bytes_of xs) ≡ []

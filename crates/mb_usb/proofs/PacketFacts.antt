@@ -56,8 +56,11 @@ packets_at_from cable at [] = []
 packets_at_from cable at (x ∷ xs) = packet_at cable at x ∷ packets_at_from cable (at + 4) xs
 
 -- a packet has four bytes
-pub packets-padded : (at head : ℕ) (bs more : List ℕ) → packets_from at ((head ∷ padded bs) ++ more) ≡ record { at = at;
-    head = head; rest = padded bs } ∷ packets_from (at + 4) more
+pub packets-padded : (at head : ℕ) (bs more : List ℕ) → packets_from at ((head ∷ padded bs) ++ more) ≡ record {
+  at = at;
+  head = head;
+  rest = padded bs;
+} ∷ packets_from (at + 4) more
 packets-padded at head [] more = refl
 packets-padded at head (a ∷ []) more = refl
 packets-padded at head (a ∷ b ∷ []) more = refl
@@ -100,11 +103,11 @@ carried-packet cable at x g =
 
 carried-from : (cable at : ℕ) (xs : List Cut) → AreGood xs →
     heard_bytes (flat_map (λ p. if cable_of p == cable then heard_in p else []) (packets_at_from cable at xs)) ≡
-        cut_bytes xs
+    cut_bytes xs
 carried-from cable at [] g = refl
 carried-from cable at (x ∷ xs) g =
     let rest : List Entry = flat_map (λ p. if cable_of p == cable then heard_in p else [])
-        (packets_at_from cable (at + 4) xs) in
+    (packets_at_from cable (at + 4) xs) in
     ap (λ t. heard_bytes ((if t then heard_in (packet_at cable at x) else []) ++ rest))
     (eq-eqb (cable_of (packet_at cable at x)) cable (cable-packet cable at x g.0.low))
     ∙ (heard_bytes-append (heard_in (packet_at cable at x)) rest
@@ -114,7 +117,7 @@ pub usb-carried : (cable : ℕ) (xs : List Cut) → AreGood xs → heard_bytes (
     cut_bytes xs
 usb-carried cable xs g =
     ap (λ ps. heard_bytes (flat_map (λ p. if cable_of p == cable then heard_in p else []) ps))
-        (packets-written cable 0 xs)
+    (packets-written cable 0 xs)
     ∙ carried-from cable 0 xs g
 
 unit-none : (cable at : ℕ) (x : Cut) → IsGood x → unit_note (packet_at cable at x) ≡ []
@@ -122,10 +125,10 @@ unit-none cable at x g =
     let p : EventPacket = packet_at cable at x in
     let mismatch : Known = record { at = at + 3; rank = 4; moment = 0; told = Notes at CinMismatch } in
     ap (λ t. if t then record { at = at; rank = 4; moment = 0; told = Notes at ReservedCin } ∷ [] else
-        (if suits_packet p then [] else mismatch ∷ []))
+    (if suits_packet p then [] else mismatch ∷ []))
     (lt-leb (cin_of p) 1 (subst (λ n. 1 < n) (sym (cin-packet cable at x g.low)) g.unreserved))
     ∙ ap (λ t. if t then [] else mismatch ∷ []) (ap (λ n. suits_rest n (padded x.bytes)) (cin-packet cable at x g.low) ∙
-        g.suits)
+    g.suits)
 
 units-none : (cable at : ℕ) (xs : List Cut) → AreGood xs → flat_map unit_note (packets_at_from cable at xs) ≡ []
 units-none cable at [] g = refl

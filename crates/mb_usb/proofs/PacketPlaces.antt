@@ -16,8 +16,11 @@ use Rattle.mb_usb.proofs.Places.{From, From-less, From-append}
 
 pub rest_of_sysex-From : (i : ℕ) (ms : List Sign) → From i (rest_of_sysex i ms)
 rest_of_sysex-From i [] = tt
-rest_of_sysex-From i (ByteSign b ∷ ms) = (omega arith, From-less i (i + 1) (rest_of_sysex (i + 1) ms) (omega arith)
-    (rest_of_sysex-From (i + 1) ms))
+rest_of_sysex-From i (ByteSign b ∷ ms) = (
+  omega arith,
+  From-less i (i + 1) (rest_of_sysex (i + 1) ms) (omega arith)
+      (rest_of_sysex-From (i + 1) ms),
+)
 rest_of_sysex-From i (RtSign b ∷ ms) = From-less i (i + 1) (rest_of_sysex (i + 1) ms) (omega arith)
     (rest_of_sysex-From (i + 1) ms)
 rest_of_sysex-From i (EndSign ∷ ms) = (omega arith, tt)
@@ -55,14 +58,23 @@ sysex_packets-From c n e (x ∷ y ∷ z ∷ xs) f le = (f.1.1.0, sysex_packets-F
 
 pub usb_packets-From : (c i : ℕ) (ms : List Sign) → From i (usb_packets c i ms)
 usb_packets-From c i [] = tt
-usb_packets-From c i (ShortSign s a b ∷ ms) = (omega arith, From-less i (i + 1) (usb_packets c (i + 1) ms) (omega arith)
-    (usb_packets-From c (i + 1) ms))
-usb_packets-From c i (RtSign b ∷ ms) = (omega arith, From-less i (i + 1) (usb_packets c (i + 1) ms) (omega arith)
-    (usb_packets-From c (i + 1) ms))
+usb_packets-From c i (ShortSign s a b ∷ ms) = (
+  omega arith,
+  From-less i (i + 1) (usb_packets c (i + 1) ms) (omega arith)
+      (usb_packets-From c (i + 1) ms),
+)
+usb_packets-From c i (RtSign b ∷ ms) = (
+  omega arith,
+  From-less i (i + 1) (usb_packets c (i + 1) ms) (omega arith)
+      (usb_packets-From c (i + 1) ms),
+)
 usb_packets-From c i (OpenSign ∷ ms) =
     let rest = rest_of_sysex (i + 1) ms in
-    let bytes : From i (at_place i 0xf0 ∷ rest) = (omega arith, From-less i (i + 1) rest (omega arith)
-        (rest_of_sysex-From (i + 1) ms)) in
+    let bytes : From i (at_place i 0xf0 ∷ rest) = (
+      omega arith,
+      From-less i (i + 1) rest (omega arith)
+          (rest_of_sysex-From (i + 1) ms),
+    ) in
     let least : i + 1 ≤ end_of_sysex (i + 1) ms = end_of_sysex-least (i + 1) ms in
     From-append i (sysex_packets c (end_of_sysex (i + 1) ms) (at_place i 0xf0 ∷ rest)) (usb_packets c (i + 1) ms)
     (sysex_packets-From c i (end_of_sysex (i + 1) ms) (at_place i 0xf0 ∷ rest) bytes (omega arith))
@@ -103,7 +115,7 @@ pub single-packets : (c e : ℕ) (x : Placed ℕ) → IsNoEnd x → part_packets
     []
 single-packets c e x none =
     ap (λ (t : Bool). if t then at_place x.place (packet c 5 (x.thing ∷ [])) ∷ [] else at_place e (single c x.thing) ∷
-        []) none
+    []) none
 
 pub two-packets : (c e : ℕ) (x y : Placed ℕ) → IsNoEnd y →
     part_packets c e (x ∷ y ∷ []) ≡ at_place e (single c x.thing) ∷ at_place e (single c y.thing) ∷ []
@@ -121,7 +133,7 @@ sysex_packets-pending c n e (x ∷ []) (y ∷ []) few f le = From-append n _ [] 
 sysex_packets-pending c n e (x ∷ []) (y ∷ z ∷ xs) few f le = (f.1.0, sysex_packets-From c n e xs f.1.1 le)
 sysex_packets-pending c n e (x ∷ y ∷ []) [] few f le =
     From-append n (part_packets c e (x ∷ y ∷ [])) [] (subst (From n) (sym (two-packets c e x y few.1)) (le, (le, tt)))
-        tt
+    tt
 sysex_packets-pending c n e (x ∷ y ∷ []) (z ∷ xs) few f le = (f.0, sysex_packets-From c n e xs f.1 le)
 sysex_packets-pending c n e (x ∷ y ∷ z ∷ q) xs few f le = absurd few
 

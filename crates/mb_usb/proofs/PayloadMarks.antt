@@ -32,9 +32,11 @@ RisesFrom-lower low high (Heard x ∷ es) l h = (omega (arith, h.0), h.1)
 RisesFrom-heard : (at moment : ℕ) (bs : List ℕ) (es : List Entry) → RisesFrom (at + length bs) es →
     RisesFrom at (heard_from at moment bs ++ es)
 RisesFrom-heard at moment [] es h = RisesFrom-lower at (at + 0) es (omega arith) h
-RisesFrom-heard at moment (b ∷ bs) es h =
-    (omega arith, RisesFrom-heard (at + 1) moment bs es (RisesFrom-lower (at + 1 + length bs) (at + length (b ∷ bs)) es
-        (omega arith) h))
+RisesFrom-heard at moment (b ∷ bs) es h = (
+  omega arith,
+  RisesFrom-heard (at + 1) moment bs es (RisesFrom-lower (at + 1 + length bs) (at + length (b ∷ bs)) es
+      (omega arith) h),
+)
 
 abbrev payload_of : ℕ → List EventPacket → List Entry
 payload_of cable ps = flat_map (λ p. if cable_of p == cable then heard_in p else []) ps
@@ -42,7 +44,7 @@ payload_of cable ps = flat_map (λ p. if cable_of p == cable then heard_in p els
 -- what one packet carries, before the payload of those behind it
 packet_rises : (cable at head : ℕ) (bs : List ℕ) (es : List Entry) → length bs ≤ 3 → RisesFrom (at + 4) es →
     RisesFrom at ((if cable_of (record { at = at; head = head; rest = bs }) == cable then
-        heard_in (record { at = at; head = head; rest = bs }) else []) ++ es)
+    heard_in (record { at = at; head = head; rest = bs }) else []) ++ es)
 packet_rises cable at head bs es few h =
     let p : EventPacket = record { at = at; head = head; rest = bs } in
     let Goal : Bool → Type 0 = λ c. RisesFrom at ((if c then heard_in p else []) ++ es) in
@@ -59,7 +61,7 @@ payload-rises_from : (cable at : ℕ) (bytes : List ℕ) → RisesFrom at (paylo
 payload-rises_from cable at [] = tt
 payload-rises_from cable at (h ∷ a ∷ b ∷ c ∷ bs) =
     packet_rises cable at h (a ∷ b ∷ c ∷ []) (payload_of cable (packets_from (at + 4) bs)) (omega arith)
-        (payload-rises_from cable (at + 4) bs)
+    (payload-rises_from cable (at + 4) bs)
 payload-rises_from cable at (h ∷ []) = packet_rises cable at h [] [] (omega arith) tt
 payload-rises_from cable at (h ∷ a ∷ []) = packet_rises cable at h (a ∷ []) [] (omega arith) tt
 payload-rises_from cable at (h ∷ a ∷ b ∷ []) = packet_rises cable at h (a ∷ b ∷ []) [] (omega arith) tt
@@ -69,24 +71,35 @@ payload-rises cable bytes = payload-rises_from cable 0 bytes
 
 -- what one packet carries, before the payload of those behind it
 length-packet : (cable at head : ℕ) (bs : List ℕ) (es : List Entry) →
-    length ((if cable_of (record { at = at; head = head; rest = bs }) == cable then heard_in (record { at = at; head =
-        head; rest = bs }) else []) ++ es)
+    length ((if cable_of (record { at = at; head = head; rest = bs }) == cable then heard_in (record {
+      at = at;
+      head =
+          head;
+      rest = bs;
+    }) else []) ++ es)
     ≤ length bs + length es
 length-packet cable at head bs es =
     let p : EventPacket = record { at = at; head = head; rest = bs } in
     let Goal : Bool → Type 0 = λ c. length ((if c then heard_in p else []) ++ es) ≤ length bs + length es in
     let taken : List ℕ = take (used (cin_of p)) bs in
     elim (cable_of p == cable) as Goal [
-      | true ↦ omega (arith, length-append (heard_in p) es, length-heard_from (at + 1) 0 taken,
-          length-take (used (cin_of p)) bs)
+      | true ↦ omega (
+        arith,
+        length-append (heard_in p) es,
+        length-heard_from (at + 1) 0 taken,
+        length-take (used (cin_of p)) bs,
+      )
       | false ↦ omega arith
     ]
 
 length-payload_from : (cable at : ℕ) (bytes : List ℕ) → length (payload_of cable (packets_from at bytes)) ≤ length bytes
 length-payload_from cable at [] = omega arith
 length-payload_from cable at (h ∷ a ∷ b ∷ c ∷ bs) =
-    omega (arith, length-packet cable at h (a ∷ b ∷ c ∷ []) (payload_of cable (packets_from (at + 4) bs)),
-        length-payload_from cable (at + 4) bs)
+    omega (
+      arith,
+      length-packet cable at h (a ∷ b ∷ c ∷ []) (payload_of cable (packets_from (at + 4) bs)),
+      length-payload_from cable (at + 4) bs,
+    )
 length-payload_from cable at (h ∷ []) = omega (arith, length-packet cable at h [] [])
 length-payload_from cable at (h ∷ a ∷ []) = omega (arith, length-packet cable at h (a ∷ []) [])
 length-payload_from cable at (h ∷ a ∷ b ∷ []) = omega (arith, length-packet cable at h (a ∷ b ∷ []) [])
@@ -108,8 +121,13 @@ payload-heard_of cable (p ∷ ps) =
 pub payload-heard : (cable : ℕ) (bytes : List ℕ) → AllHeard (cable_payload cable bytes)
 payload-heard cable bytes = payload-heard_of cable (packets bytes)
 
-unit_marked_by : (c d : Bool) (at : ℕ) → marked (if c then record { at = at; rank = 4; moment = 0; told =
-    Notes at ReservedCin } ∷ []
+unit_marked_by : (c d : Bool) (at : ℕ) → marked (if c then record {
+  at = at;
+  rank = 4;
+  moment = 0;
+  told =
+      Notes at ReservedCin;
+} ∷ []
     else (if d then [] else record { at = at + 3; rank = 4; moment = 0; told = Notes at CinMismatch } ∷ [])) ≡ []
 unit_marked_by true d at = refl
 unit_marked_by false true at = refl
@@ -149,7 +167,7 @@ pub usb-notes : (cable : ℕ) (bytes : List ℕ) → flat_map unit_note (packets
 usb-notes cable bytes none clean =
     let es : List Entry = cable_payload cable bytes in
     let told : usb_told cable bytes ≡ payload_told es = ap (λ ks. payload_told es ++ ks) none ∙
-        append-nil (payload_told es) in
+    append-nil (payload_told es) in
     flat_map-append (λ p. note_in p.told) (usb_so_far cable bytes) (end_part 0 es)
     ∙ ap₂ (λ ms ns. ms ++ ns)
     (parts-notes (in_order (λ k. k) (usb_told cable bytes))

@@ -111,7 +111,7 @@ set-behind was now dins i next h rested rises at low = record {
       let same : i ≡ c = grind (arith, nat_tests) in
       let read : reader_at (set dins i next) i ≡ next = get_or-set_same dins i next din.fresh low in
       let here : (reader_at (set dins i next) i).offset ≤ now.offset =
-          omega (arith, ap (λ (s : State). s.offset) read) in
+      omega (arith, ap (λ (s : State). s.offset) read) in
       subst (λ z. (reader_at (set dins i next) z).offset ≤ now.offset) same here
   by_test c below false e =
       let apart : c ≢ i = grind (arith, nat_tests) in
@@ -122,7 +122,7 @@ pub hands-rises : (was now : Packets) (reader next : State) (input left : List �
     Hands was now reader next input left answer → was.offset ≤ now.offset
 hands-rises was now reader next input left answer h =
     let at : now.offset ≡ was.offset + length h.taken = ap (λ (z : Packets). z.offset) h.packet ∙
-        packet_behind-offset was h.taken in
+    packet_behind-offset was h.taken in
     omega arith
 
 pub hands-rested : (was now : Packets) (reader next : State) (input left : List ℕ) (answer : List Told) →
@@ -133,23 +133,26 @@ hands-rested was now reader next input left answer h r = ap is_rested h.packet �
 owed-falls : (was now : Packets) (r r' next : State) (taken : List ℕ) (l l' : ℕ) → now ≡ packet_behind was taken →
     was.due ≡ None → left_of was.under ≢ 0 →
     (taken ≡ [] → r' ≡ next) → l' + length taken ≡ l → 2 * l' + din.owed next < 2 * l + din.owed r →
-        2 * l' + owed_of now r' < 2 * l + owed_of was r
+    2 * l' + owed_of now r' < 2 * l + owed_of was r
 owed-falls was now r r' next [] l l' e none left same lengths falls =
     let old : owed_of was r ≡ din.owed r = owed-carrying was.due (left_of was.under) (din.owed r) none left in
     let new : owed_of now r' ≡ din.owed next = ap₂ owed_of e (same refl) ∙ owed-carrying was.due (left_of was.under)
-        (din.owed next) none left in
+    (din.owed next) none left in
     omega (arith, old, new)
 owed-falls was now r r' next (b ∷ bs) l l' e none left same lengths falls = omega (arith, owed-bound now r')
 
 pub hands-owed : (was now : Packets) (r r' next : State) (input left : List ℕ) (answer : List Told)
     (h : Hands was now r next input left answer) → was.due ≡ None → left_of was.under ≢ 0 →
     (h.taken ≡ [] → r' ≡ next) → 2 * length left + din.owed next < 2 * length input + din.owed r →
-        2 * length left + owed_of now r' < 2 * length input + owed_of was r
+    2 * length left + owed_of now r' < 2 * length input + owed_of was r
 hands-owed was now r r' next input left answer h none left_over same falls =
     let at : now.offset ≡ was.offset + length h.taken = ap (λ (z : Packets). z.offset) h.packet ∙
-        packet_behind-offset was h.taken in
-    let lengths : length left + length h.taken ≡ length input = omega (arith, hands-end was now r next input left answer
-        h) in
+    packet_behind-offset was h.taken in
+    let lengths : length left + length h.taken ≡ length input = omega (
+      arith,
+      hands-end was now r next input left answer
+          h,
+    ) in
     owed-falls was now r r' next h.taken (length input) (length left) h.packet none left_over same lengths falls
 
 -- the reader that was written is the one of the packet under way, where no byte was taken
@@ -158,7 +161,7 @@ pub set-read : (was now : Packets) (dins : List State) (i : ℕ) (next : State) 
     taken ≡ [] → reader_at (set dins i next) (head_of now.under / 16) ≡ next
 set-read was now dins i next taken e at low none =
     let same : head_of now.under / 16 ≡ i = ap (λ (z : Packets). head_of z.under / 16) (e ∙
-        ap (packet_behind was) none) ∙ sym at in
+    ap (packet_behind was) none) ∙ sym at in
     ap (reader_at (set dins i next)) same ∙ get_or-set_same dins i next din.fresh low
 
 -- a reader by its index, read at any default
@@ -174,21 +177,21 @@ pub read-behind : (was now : Packets) (dins : List State) (i : ℕ) (next d : St
     next.offset ≡ now.offset → AreBehind was dins → AreBehind now (set dins i next)
 read-behind was now dins i next d input left answer low h at b =
     set-behind was now dins i next b (hands-rested was now (get_or dins i d) next input left answer h b.rested)
-        (hands-rises was now (get_or dins i d) next input left answer h) at low
+    (hands-rises was now (get_or dins i d) next input left answer h) at low
 
 pub read-owed : (was now : Packets) (dins : List State) (i : ℕ) (next d : State) (input left : List ℕ)
     (answer : List Told) → i < length dins → Hands was now (get_or dins i d) next input left answer →
     i ≡ head_of was.under / 16 → was.due ≡ None → left_of was.under ≢ 0 → 2 * length left + din.owed next < 2 *
-        length input + din.owed (get_or dins i d) →
+    length input + din.owed (get_or dins i d) →
     2 * length left + owed_of now (reader_at (set dins i next) (head_of now.under / 16)) < 2 * length input +
-        owed_of was (reader_at dins (head_of was.under / 16))
+    owed_of was (reader_at dins (head_of was.under / 16))
 read-owed was now dins i next d input left answer low h at none over falls =
     let here : get_or dins i d ≡ reader_at dins (head_of was.under / 16) = get_or_default dins i d din.fresh low ∙
-        ap (reader_at dins) at in
+    ap (reader_at dins) at in
     subst (λ r. 2 * length left + owed_of now (reader_at (set dins i next) (head_of now.under / 16)) < 2 *
-        length input + owed_of was r) here
+    length input + owed_of was r) here
     (hands-owed was now (get_or dins i d) (reader_at (set dins i next) (head_of now.under / 16)) next input left answer
-        h none over
+    h none over
     (λ nothing. set-read was now dins i next h.taken h.packet at low nothing) falls)
 
 pub some_weaker : {T P Q : Type 0} (o : Option T) → (P → Q) → OnSome o P → OnSome o Q
@@ -200,8 +203,13 @@ pub pass-behind : (p q r : Packets) (dins : List State) (b : ℕ) → AreBehind 
     r ≡ packet_after q b → AreBehind r dins
 pass-behind p q r dins b h same after = record {
   rested = ap is_rested after ∙ rested-after q b;
-  low = λ c below. omega (arith, h.low c below, ap (λ (z : Packets). z.offset) same, ap (λ (z : Packets). z.offset)
-      after);
+  low = λ c below. omega (
+    arith,
+    h.low c below,
+    ap (λ (z : Packets). z.offset) same,
+    ap (λ (z : Packets). z.offset)
+        after,
+  );
 }
 
 -- what was handed to a cable's reader was taken whole

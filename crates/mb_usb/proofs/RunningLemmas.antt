@@ -14,7 +14,7 @@ usb_from-append c p [] ns = refl
 usb_from-append c p (m ∷ ms) ns =
     ap (λ (xs : List ℕ). usb_at c p m ++ xs) (usb_from-append c (pending_after p m) ms ns) ∙
     sym (append_assoc (usb_at c p m) (usb_from c (pending_after p m) ms)
-        (usb_from c (pending_from (pending_after p m) ms) ns))
+    (usb_from c (pending_from (pending_after p m) ms) ns))
 
 -- of one mark
 pub usb_from-one : (c : ℕ) (p : List ℕ) (m : Sign) → usb_from c p (m ∷ []) ≡ usb_at c p m

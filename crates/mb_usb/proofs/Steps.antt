@@ -32,7 +32,7 @@ pub step-due : (f : ℕ → Option ℕ) (n : ℕ) → LowPorts (usb f) n → (p 
     Tells bare (all_known (usb f) n) (HoldsAt f n p rs) (HoldsAt f n q rs) input input ((None, Notes x.at x.kind) ∷ [])
 step-due f n lows p q rs x input e same =
     subst (λ (z : Packets). Tells bare (all_known (usb f) n) (HoldsAt f n p rs) (HoldsAt f n z rs) input input
-        ((None, Notes x.at x.kind) ∷ [])) (sym same)
+    ((None, Notes x.at x.kind) ∷ [])) (sym same)
     (tells-due (usb f) n lows p.offset p.under rs input (notes_in p.due) [] x (ap notes_in e))
 
 -- nothing was due
@@ -46,9 +46,9 @@ pub step-pass : (f : ℕ → Option ℕ) (n : ℕ) → LowPorts (usb f) n → (p
 step-pass f n lows p q rs b input left due none same front =
     subst (λ (z : List ℕ). Tells bare (all_known (usb f) n) (HoldsAt f n p rs) (HoldsAt f n q rs) z left []) (sym front)
     (subst (λ (z : Packets). Tells bare (all_known (usb f) n) (HoldsAt f n p rs) (HoldsAt f n z rs) (b ∷ left) left [])
-        (sym same)
+    (sym same)
     (subst (λ (z : Whole Under). Tells bare (all_known (usb f) n) (Holds (usb f) n z) (HoldsAt f n (packet_after p b)
-        rs) (b ∷ left) left []) (sym (plain p rs due))
+    rs) (b ∷ left) left []) (sym (plain p rs due))
     (tells-pass (usb f) n lows p.offset p.under rs b left none)))
 
 behind-under : (f : ℕ → Option ℕ) (p : Packets) (bs : List ℕ) → (packet_behind p bs).under ≡ under_from (usb f) p.under
@@ -63,14 +63,14 @@ behind-due f p (b ∷ bs) = behind-due f (packet_after p b) bs
 
 behind-whole : (f : ℕ → Option ℕ) (p : Packets) (rs : ℕ → State) (bs : List ℕ) → p.due ≡ None →
     whole (p.offset + length bs) (under_from (usb f) p.under bs) (due_after (usb f) p.under [] p.offset bs) rs ≡
-        whole_of (packet_behind p bs) rs
+    whole_of (packet_behind p bs) rs
 behind-whole f p rs bs due =
     let o : p.offset + length bs ≡ (packet_behind p bs).offset = sym (packet_behind-offset p bs) in
     let u : under_from (usb f) p.under bs ≡ (packet_behind p bs).under = sym (behind-under f p bs) in
     let d : due_after (usb f) p.under [] p.offset bs ≡ notes_in (packet_behind p bs).due =
     ap (λ (z : Option Note). due_after (usb f) p.under (notes_in z) p.offset bs) (sym due) ∙ sym (behind-due f p bs) in
     ap₂ (λ (z : ℕ) (v : Under). whole z v (due_after (usb f) p.under [] p.offset bs) rs) o u ∙
-        ap (λ (z : List Note). whole (packet_behind p bs).offset (packet_behind p bs).under z rs) d
+    ap (λ (z : List Note). whole (packet_behind p bs).offset (packet_behind p bs).under z rs) d
 
 -- the piece has a byte, and no more than the packet still carries
 piece-some : (left : ℕ) (b : ℕ) (rest : List ℕ) → left ≢ 0 → 0 < length (take left (b ∷ rest))
@@ -80,9 +80,9 @@ piece-some (suc left) b rest h = omega arith
 pub step-carry : (f : ℕ → Option ℕ) (n : ℕ) → LowPorts (usb f) n → (p q : Packets) (rs readers : ℕ → State) (port b : ℕ)
     (input rest left : List ℕ) (answer : List Told) → p.due ≡ None →
     port_by (left_of p.under) (f (head_of p.under / 16)) ≡ Some port → left_of p.under ≢ 0 → input ≡ b ∷ rest →
-        Hands p q (rs port) (readers port) input left answer → ((c : ℕ) → c < n → (c ≡ port → ⊥) → readers c ≡ rs c) →
+    Hands p q (rs port) (readers port) input left answer → ((c : ℕ) → c < n → (c ≡ port → ⊥) → readers c ≡ rs c) →
     Tells bare (all_known (usb f) n) (HoldsAt f n p rs) (HoldsAt f n q readers) input left (map (λ t. (Some port, t))
-        answer)
+    answer)
 step-carry f n lows p q rs readers port b input rest left answer due here over first h others =
     let many = left_of p.under in
     let seen = map (λ t. (Some port, t)) answer in
@@ -97,19 +97,19 @@ step-carry f n lows p q rs readers port b input rest left answer due here over f
       others = others;
     } in
     let tells = tells-carry (usb f) n lows p.offset p.under rs readers port many (piece_of p input) (drop many input)
-        h.kept h.taken answer call in
+    h.kept h.taken answer call in
     subst (λ (z : Packets). Tells bare (all_known (usb f) n) (HoldsAt f n p rs) (HoldsAt f n z readers) input left seen)
-        (sym h.packet)
+    (sym h.packet)
     (subst (λ (z : List ℕ). Tells bare (all_known (usb f) n) (HoldsAt f n p rs) (HoldsAt f n (packet_behind p h.taken)
-        readers) input z seen) (sym h.left_is)
+    readers) input z seen) (sym h.left_is)
     (subst (λ (z : List ℕ). Tells bare (all_known (usb f) n) (HoldsAt f n p rs) (HoldsAt f n (packet_behind p h.taken)
-        readers) z (h.kept ++ drop many input) seen) (take-append-drop many input)
+    readers) z (h.kept ++ drop many input) seen) (take-append-drop many input)
     (subst (λ (z : Whole Under). Tells bare (all_known (usb f) n) (HoldsAt f n p rs) (Holds (usb f) n z)
-        (piece_of p input ++ drop many input) (h.kept ++ drop many input) seen) (behind-whole f p readers h.taken due)
+    (piece_of p input ++ drop many input) (h.kept ++ drop many input) seen) (behind-whole f p readers h.taken due)
     (subst (λ (z : Whole Under). Tells bare (all_known (usb f) n) (Holds (usb f) n z)
-        (Holds (usb f) n (whole (p.offset + length h.taken) (under_from (usb f) p.under h.taken)
-        (due_after (usb f) p.under [] p.offset h.taken) readers)) (piece_of p input ++ drop many input) (h.kept ++
-        drop many input) seen) (sym (plain p rs due))
+    (Holds (usb f) n (whole (p.offset + length h.taken) (under_from (usb f) p.under h.taken)
+    (due_after (usb f) p.under [] p.offset h.taken) readers)) (piece_of p input ++ drop many input) (h.kept ++
+    drop many input) seen) (sym (plain p rs due))
     tells))))
 
 pub step-none : (f : ℕ → Option ℕ) (n : ℕ) (q : Packets) (rs : ℕ → State) (was : List ℕ → List Ported → Type 0)
@@ -117,4 +117,4 @@ pub step-none : (f : ℕ → Option ℕ) (n : ℕ) (q : Packets) (rs : ℕ → S
     Tells bare (all_known (usb f) n) was (HoldsAt f n q rs) input [] [] → AllTold (all_known (usb f) n) was input
 step-none f n q rs was input due tells =
     all_told-none (usb f) n q.offset q.under rs was input (subst (λ (z : Whole Under). Tells bare (all_known (usb f) n)
-        was (Holds (usb f) n z) input [] []) (plain q rs due) tells)
+    was (Holds (usb f) n z) input [] []) (plain q rs due) tells)

@@ -39,7 +39,7 @@ all_from c i q ms = sysex_packets c (end_of_sysex i ms) (q ++ rest_of_sysex i ms
 all_from-outside : (c i : ℕ) (ms : List Sign) → Suited false ms → all_from c i [] ms ≡ usb_packets c i ms
 all_from-outside c i ms s =
     ap (λ (rest : List (Placed ℕ)). sysex_packets c (end_of_sysex i ms) rest ++ usb_packets c i ms)
-        (rest_of_sysex-outside i ms s)
+    (rest_of_sysex-outside i ms s)
 
 data_is_no_end : (b : ℕ) → is_data b ≡ true → (b == 0xf7) ≡ false
 data_is_no_end b h = grind (arith, nat_tests)
@@ -66,7 +66,7 @@ three-step c i x y b ms none behind =
     (omega (arith, end_of_sysex-least (i + 1) ms)))
     (later-packets c i ms) in
     ap (λ (t : Bool). by_place (at_place i (packet c (if t then 7 else 4) (x.thing ∷ y.thing ∷ b ∷ [])) ∷ packets))
-        none ∙
+    none ∙
     by_place-first (at_place i (packet c 4 (x.thing ∷ y.thing ∷ b ∷ []))) packets later ∙
     ap (λ (ps : List (Placed (List ℕ))). at_place i (packet c 4 (x.thing ∷ y.thing ∷ b ∷ [])) ∷ ps) behind
 
@@ -94,7 +94,7 @@ all_from-placed c i o q (RtSign b ∷ ms) h s =
 -- outside a SysEx
 all_from-placed c i false [] (ShortSign t a b ∷ ms) h s =
     closed-step c i (packet c (cin_of_short t) (t ∷ data_of t a b)) ms s.1 (all_from-placed c (i + 1) false [] ms tt
-        s.1)
+    s.1)
 all_from-placed c i false [] (OpenSign ∷ ms) h s = all_from-placed c (i + 1) true (at_place i 0xf0 ∷ []) ms refl s.1
 all_from-placed c i false [] (ByteSign b ∷ ms) h s = absurd (false≢true s.0)
 all_from-placed c i false [] (EndSign ∷ ms) h s = absurd (false≢true s.0)
@@ -126,7 +126,7 @@ all_from-placed c i true (x ∷ []) (AbortSign ∷ ms) h s =
 all_from-placed c i true (x ∷ y ∷ []) (AbortSign ∷ ms) h s =
     ap (λ (ps : List (Placed (List ℕ))). by_place ((ps ++ []) ++ usb_packets c (i + 1) ms)) (two-packets c i x y h.1) ∙
     by_place-first (at_place i (single c x.thing)) (at_place i (single c y.thing) ∷ usb_packets c (i + 1) ms)
-        (omega arith, later-packets c i ms) ∙
+    (omega arith, later-packets c i ms) ∙
     ap (λ (ps : List (Placed (List ℕ))). at_place i (single c x.thing) ∷ ps)
     (closed-step c i (single c y.thing) ms s.1 (all_from-placed c (i + 1) false [] ms tt s.1))
 
@@ -149,10 +149,10 @@ placed_from-bytes c i p [] = bytes_of-all_at i (packets_at c p AbortSign)
 placed_from-bytes c i p (m ∷ ms) =
     bytes_of-append (all_at i (packets_at c p m)) (placed_from c (i + 1) (pending_after p m) ms) ∙
     ap (λ (ys : List ℕ). ys ++ bytes_of (placed_from c (i + 1) (pending_after p m) ms))
-        (bytes_of-all_at i (packets_at c p m)) ∙
+    (bytes_of-all_at i (packets_at c p m)) ∙
     ap (λ (ys : List ℕ). usb_at c p m ++ ys) (placed_from-bytes c (i + 1) (pending_after p m) ms) ∙
     sym (append_assoc (usb_at c p m) (usb_from c (pending_after p m) ms) (usb_at c (pending_from (pending_after p m) ms)
-        AbortSign))
+    AbortSign))
 
 placed_from-live : (c i n : ℕ) (p : List ℕ) (ms : List Sign) → n ≡ i + length ms →
     bytes_of (before_place n (placed_from c i p ms)) ≡ usb_from c p ms
@@ -165,7 +165,7 @@ placed_from-live c i n p (m ∷ ms) e =
     ap bytes_of (before_place-append n (all_at i (packets_at c p m)) more) ∙
     bytes_of-append (before_place n (all_at i (packets_at c p m))) (before_place n more) ∙
     ap (λ (ps : List (Placed (List ℕ))). bytes_of ps ++ bytes_of (before_place n more))
-        (before_place-all n i (packets_at c p m) before) ∙
+    (before_place-all n i (packets_at c p m) before) ∙
     ap (λ (ys : List ℕ). ys ++ bytes_of (before_place n more)) (bytes_of-all_at i (packets_at c p m)) ∙
     ap (λ (ys : List ℕ). usb_at c p m ++ ys) (placed_from-live c (i + 1) n (pending_after p m) ms (omega (arith, e)))
 

@@ -28,7 +28,7 @@ usb_state packet readers = record { packet = packet; readers = readers }
 pub next-tells : (was : UsbState) (p q : Packets) (dins next : List State) (input left : List ℕ)
     (seen : List (Option ℕ × Told)) → usb_state p dins ≡ was →
     Tells bare all_cables_so_far (UsbHolds p dins) (UsbHolds q next) input left seen → UsbTells was (usb_state q next)
-        input left seen
+    input left seen
 next-tells was p q dins next input left seen e tells =
     subst (λ (s : UsbState). UsbTells s (usb_state q next) input left seen) e tells
 
@@ -43,25 +43,25 @@ pub finish-told : (was : UsbState) (dins : List State) (cable : ℕ) (d : State)
     reader_at dins cable ≡ reader_at was.readers cable → cable < 16 → cable < length dins →
     ((es : List Entry) → Stands (get_or dins cable d) es (so_far es) → answer ≡ at_end (last_of es)) →
     (bytes : List ℕ) → UsbStands was bytes (all_cables_so_far bytes) →
-        answer ≡ at_end (last_of (cable_payload cable bytes))
+    answer ≡ at_end (last_of (cable_payload cable bytes))
 finish-told was dins cable d answer same low here says bytes h =
     let p = was.packet in
     let known : UsbHolds p was.readers bytes (all_known (usb each_cable) 16 bytes) =
-        subst (UsbHolds p was.readers bytes) (sym (each_law bytes)) h in
+    subst (UsbHolds p was.readers bytes) (sym (each_law bytes)) h in
     let stands : Stands (reader_at was.readers cable) (port_payload cable (events (usb each_cable) bytes))
-        (so_far (port_payload cable (events (usb each_cable) bytes))) =
+    (so_far (port_payload cable (events (usb each_cable) bytes))) =
     finish-stands (usb each_cable) 16 each_low p.offset p.under (notes_in p.due) (reader_at was.readers) bytes known
-        cable low in
+    cable low in
     let own : Stands (reader_at was.readers cable) (cable_payload cable bytes) (so_far (cable_payload cable bytes)) =
     subst (λ es. Stands (reader_at was.readers cable) es (so_far es)) (each-payload cable bytes low) stands in
     says (cable_payload cable bytes) (subst (λ (s : State). Stands s (cable_payload cable bytes)
-        (so_far (cable_payload cable bytes))) (sym same ∙ get_or_default dins cable din.fresh d here) own)
+    (so_far (cable_payload cable bytes))) (sym same ∙ get_or_default dins cable din.fresh d here) own)
 
 pub new-stands : (p : Packets) (dins : List State) → p ≡ record { offset = 0; under = Between; due = None } →
     ((c : ℕ) → c < 16 → Stands (reader_at dins c) [] []) → UsbHolds p dins [] []
 new-stands p dins e fresh =
     subst (λ (z : Packets). UsbHolds z dins [] []) (sym e) (start-holds (usb each_cable) 16 (reader_at dins)
-        (omega arith) fresh)
+    (omega arith) fresh)
 
 -- How much of a packet was taken.
 four-more : (n : ℕ) → (n + 4) % 4 ≡ n % 4

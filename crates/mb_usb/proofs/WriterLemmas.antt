@@ -21,7 +21,7 @@ Stands-put old new e ms suits opened pending s = record {
       ap (λ (o : Bool). open_from o (signs_of_event e)) s.open_now ∙ sym (is_open-append ms (signs_of_event e));
   left =
       pending ∙ ap (λ (p : List ℕ). pending_from p (signs_of_event e)) s.left ∙
-          sym (pending_from-append [] ms (signs_of_event e));
+      sym (pending_from-append [] ms (signs_of_event e));
 }
 
 -- what an event appends
@@ -37,7 +37,7 @@ usb_live-more w e ms old new suits written s =
           law.live w.cable (ms ++ signs_of_event e) longer ∙ usb_from-append w.cable [] ms (signs_of_event e) ∙
           ap (λ (p : List ℕ). usb_from w.cable [] ms ++ usb_from w.cable p (signs_of_event e)) (sym s.left) ∙
           ap (λ (xs : List ℕ). xs ++ usb_from w.cable w.pending (signs_of_event e))
-              (sym (law.live w.cable ms s.each_suits));
+          (sym (law.live w.cable ms s.each_suits));
     }
 
 -- what the finish appends

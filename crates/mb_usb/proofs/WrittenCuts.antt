@@ -49,7 +49,7 @@ pub cuts-written : (cable : ℕ) (p : List ℕ) (ms : List Sign) →
 cuts-written cable p [] = singles-written cable p
 cuts-written cable p (m ∷ ms) =
     append_assoc (usb_at cable p m) (usb_from cable (pending_after p m) ms)
-        (usb_at cable (pending_from (pending_after p m) ms) AbortSign)
+    (usb_at cable (pending_from (pending_after p m) ms) AbortSign)
     ∙ (ap₂ (λ bs cs. bs ++ cs) (at-written cable p m) (cuts-written cable (pending_after p m) ms)
     ∙ sym (flat_map-append (packet_of cable) (cuts_at p m) (cuts (pending_after p m) ms)))
 
@@ -95,11 +95,15 @@ length-cuts p (OpenSign ∷ ms) = omega (arith, length-cuts (0xf0 ∷ []) ms)
 length-cuts p (ByteSign b ∷ ms) =
     let Goal : Bool → Type 0 = λ c.
     length ((if c then cut 4 (p ++ b ∷ []) ∷ [] else []) ++ cuts (if c then [] else p ++ b ∷ []) ms) ≤ suc (length ms) +
-        length p in
+    length p in
     elim (length p == 2) as Goal [
       | true ↦ omega (arith, length-cuts [] ms)
       | false ↦ omega (arith, length-cuts (p ++ b ∷ []) ms, length-append p (b ∷ []))
     ]
 length-cuts p (EndSign ∷ ms) = omega (arith, length-cuts [] ms)
-length-cuts p (AbortSign ∷ ms) = omega (arith, length-cuts [] ms, length-singles p,
-    length-append (singles p) (cuts [] ms))
+length-cuts p (AbortSign ∷ ms) = omega (
+  arith,
+  length-cuts [] ms,
+  length-singles p,
+  length-append (singles p) (cuts [] ms),
+)

@@ -33,7 +33,7 @@ pieces-preserved c =
     record {
       room = room_left (array_vec_len c.pieces.out) (array_vec_len c.put.new.out) (length c.split_at.result.0.now)
           (length c.split_at.result.1.now) (length c.pieces.rest.now) (omega arith) (omega arith) c.put.ensures.len
-              c.pieces.invariant.room;
+          c.pieces.invariant.room;
       opened = c.put.ensures.in_sysex ∙ c.pieces.invariant.opened;
       run = (parts_pass c.pieces.rest.now c.split_at.result.0.now c.split_at.result.1.now whole
           c.pieces.invariant.run).1;
@@ -43,6 +43,6 @@ pieces-preserved c =
         Sofar-more c.args.writer.now c.pieces.writer c.put.new.self c.args.out.now.items c.pieces.out.items
             c.put.new.out.items
             taken c.split_at.result.0.now c.pieces.invariant.so_far.2 c.put.ensures.cable c.put.ensures.stands
-                c.put.ensures.written,
+            c.put.ensures.written,
       );
     }

@@ -32,7 +32,7 @@ events-preserved g c =
       listing = listing-step _ _ _ _ _ _ _ _ _ _ _ _ _ _ _ _ _ _ _ c.in-Some.seen (λ x y. g.met.K.Out.both _ _ _ x y)
           c.events.invariant.reads c.moment-moment.ensures
           (noted-more _ _ _ c.is_note.ensures) c.events.invariant.listing c.in-Some.ensures.goes
-              c.in_default-list_seen.ensures.ok;
+          c.in_default-list_seen.ensures.ok;
     }
 
 pub returns-clause-fed : goal.returns-clause-fed

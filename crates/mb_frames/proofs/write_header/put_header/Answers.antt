@@ -9,7 +9,7 @@ returns-clause-written c =
     (ap (λ z. z ++ (c.args.len % 256) ∷ []) c.push-2.ensures.items ∙
     (ap (λ z. z ++ (c.args.len / 256) ∷ [] ++ (c.args.len % 256) ∷ []) c.push.ensures.items ∙
     (ap (λ z. z ++ c.args.track ∷ [] ++ (c.args.len / 256) ∷ [] ++ (c.args.len % 256) ∷ [])
-        c.put_eight.ensures.written ∙
+    c.put_eight.ensures.written ∙
     (three-more c.args.out.now.items (spelled 8 c.args.moment) c.args.track (c.args.len / 256) (c.args.len % 256) ∙
     ap (λ z. c.args.out.now.items ++ (spelled 8 c.args.moment ++ c.args.track ∷ z))
-        (two-bytes c.args.len (omega arith))))))
+    (two-bytes c.args.len (omega arith))))))

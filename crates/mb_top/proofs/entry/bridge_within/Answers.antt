@@ -120,7 +120,7 @@ returns-clause-reads_all g c = λ command s tells m reads unhindered short unwan
     ap read_all c.code.ensures
     ∙ reads_all _ _ _ _ _ _ c.run-status.result command m c.run-status.ensures.may unwanted
     (λ e. (read_faults _ _ _ _ _ c.run-status.result _ c.code.ensures c.say.ensures.reads c.run-status.ensures.faults).0
-        (c.code.ensures ∙ ap code_of e))
+    (c.code.ensures ∙ ap code_of e))
     (λ e. write_fault _ _ _ _ _ c.run-status.result _ c.code.ensures c.say.ensures.writes c.run-status.ensures.faults
     (c.code.ensures ∙ ap code_of e))
     unhindered.reading unhindered.writing short (c.run-status.ensures.ran tells)

@@ -10,8 +10,8 @@ use Rattle.mb_ble.proofs.position.Position.end.Goals as goal
 pub returns-clause-tells : goal.returns-clause-tells
 returns-clause-tells c = λ input.
     end_groups_tells c.args.self.now _ input _ _ c.requires.fit (ap is_at_end c.requires.end)
-        c.in_default.ensures.none.1 (subst (λ z. EndedBy z c.end_groups.new.self (answer c.end_groups.result))
-        c.in_default.ensures.none.0 c.end_groups.ensures.ended) c.leave.ensures.place
+    c.in_default.ensures.none.1 (subst (λ z. EndedBy z c.end_groups.new.self (answer c.end_groups.result))
+    c.in_default.ensures.none.0 c.end_groups.ensures.ended) c.leave.ensures.place
     (ap (λ z. z.moment) c.end_groups.ensures.clock ∙ ap (λ (k : Content). k.clock.moment) c.in_default.ensures.none.0)
 
 pub returns-in-Some-clause-tells : goal.returns-in-Some-clause-tells

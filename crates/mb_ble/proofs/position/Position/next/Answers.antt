@@ -17,15 +17,15 @@ returns-then-is_empty-clause-tells c = tells-trans _ c.loop-seen.self _ _ c.loop
 pub returns-then-is_empty-clause-all_told : goal.returns-then-is_empty-clause-all_told
 returns-then-is_empty-clause-all_told c =
     all_told c.args.self.now c.settle.new.self c.args.input.now.now c.loop-seen.input.now
-        (tells-trans _ c.loop-seen.self _ _ c.loop-seen.input.now _ _ c.loop-seen.invariant.0
-        (c.in_default.ensures.tells c.loop-seen.input.now))
+    (tells-trans _ c.loop-seen.self _ _ c.loop-seen.input.now _ _ c.loop-seen.invariant.0
+    (c.in_default.ensures.tells c.loop-seen.input.now))
     (empty_nil c.loop-seen.input.now c.is_empty.result c.is_empty.ensures c.if-is_empty.true) c.in_default.ensures.none
 
 pub returns-in-Some-take-clause-tells : goal.returns-in-Some-take-clause-tells
 returns-in-Some-take-clause-tells c =
     tells-trans _ c.settle.new.self _ _ c.loop-seen.input.now _ _ (tells-trans _ c.loop-seen.self _ _
-        c.loop-seen.input.now _ _ c.loop-seen.invariant.0 (c.in_default.ensures.tells c.loop-seen.input.now))
-        c.in-Some-take.ensures.tells
+    c.loop-seen.input.now _ _ c.loop-seen.invariant.0 (c.in_default.ensures.tells c.loop-seen.input.now))
+    c.in-Some-take.ensures.tells
 
 pub loop-seen-preserved : goal.loop-seen-preserved
 loop-seen-preserved c = (

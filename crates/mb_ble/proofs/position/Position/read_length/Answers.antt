@@ -13,7 +13,7 @@ returns-clause-tells c = length_second c.args.self.now _ c.args.input.now.now c.
     c.in-Some-length.len _ _ c.in-Some.ensures.cases.0 c.requires.fit c.enter.ensures.state c.length.ensures.place
     (sym c.in-Some-length.ensures.length)
     (ap (λ (k : Content). k.clock.moment) c.enter.ensures.state)
-        (ap (λ z. map (λ t. record { moment = c.enter.new.self.clock.moment; told = t }) z) c.enter.ensures.told)
+    (ap (λ z. map (λ t. record { moment = c.enter.new.self.clock.moment; told = t }) z) c.enter.ensures.told)
 
 pub returns-clause-longest : goal.returns-clause-longest
 returns-clause-longest c = c.enter.ensures.longest
