@@ -1,9 +1,10 @@
 -- Blocks without a byte, and a byte that is put into one of them.
 use Rattle.std.proofs.Common.{◌≡◌, ℕ, zero, suc, ◌+◌, ◌-◌, ◌*◌, ◌<◌, Option, Some, None, List, [], ◌∷◌, ◌++◌, length}
-use Rattle.std.proofs.Common.{flat_map, get_or, refl, sym, ◌∙◌, ap, arith, append_assoc}
+use Rattle.std.proofs.Common.{flat_map, get_or, refl, sym, ◌∙◌, ap, arith, append_assoc, append-nil, ap₂, length-append, ◌/◌, ◌%◌}
 use Rattle.std.proofs.Math.ListN.{set}
 use Rattle.std.proofs.lemmas.List.{set-append_right}
 use Rattle.mb_fire.specs.Written.{quadlet, block, no_bytes, alone, packet_of}
+use Rattle.mb_fire.specs.Running.{next_dbc, fire_from}
 use Rattle.mb_fire.proofs.WrittenPackets.{length-block}
 
 -- so many quadlets without a byte
@@ -125,24 +126,82 @@ blocks-filled k m b n out between behind low len e f =
 abbrev pub first_empty : List ℕ
 first_empty = 0 ∷ 40 ∷ 0 ∷ 1 ∷ 0 ∷ 0 ∷ 0x90 ∷ 0x02 ∷ 0xff ∷ 0xff ∷ empty 8
 
-first-by : (m b d : ℕ) → m < 8 → filled (set first_empty 5 d) (10 + 4 * m) b ≡ packet_of 0 d (alone m b)
-first-by zero b d low = refl
-first-by (suc zero) b d low = refl
-first-by (suc (suc zero)) b d low = refl
-first-by (suc (suc (suc zero))) b d low = refl
-first-by (suc (suc (suc (suc zero)))) b d low = refl
-first-by (suc (suc (suc (suc (suc zero))))) b d low = refl
-first-by (suc (suc (suc (suc (suc (suc zero)))))) b d low = refl
-first-by (suc (suc (suc (suc (suc (suc (suc zero))))))) b d low = refl
-first-by (suc (suc (suc (suc (suc (suc (suc (suc m)))))))) b d low = absurd (omega arith)
+first-by : (m b d : ℕ) (more : List ℕ) → m < 8 →
+    filled (set (first_empty ++ more) 5 d) (10 + 4 * m) b ≡ packet_of 0 d (alone m b) ++ more
+first-by zero b d more low = refl
+first-by (suc zero) b d more low = refl
+first-by (suc (suc zero)) b d more low = refl
+first-by (suc (suc (suc zero))) b d more low = refl
+first-by (suc (suc (suc (suc zero)))) b d more low = refl
+first-by (suc (suc (suc (suc (suc zero))))) b d more low = refl
+first-by (suc (suc (suc (suc (suc (suc zero)))))) b d more low = refl
+first-by (suc (suc (suc (suc (suc (suc (suc zero))))))) b d more low = refl
+first-by (suc (suc (suc (suc (suc (suc (suc (suc m)))))))) b d more low = absurd (omega arith)
 
-pub first-filled : (m b d n : ℕ) (out appended counted behind : List ℕ) → m < 8 → length out ≡ n →
-    appended ≡ out ++ first_empty → counted ≡ set appended (n + 5) d →
-    behind ≡ filled counted (n + (10 + 4 * m)) b → behind ≡ out ++ packet_of 0 d (alone m b)
-first-filled m b d n out appended counted behind low len e f g =
+-- of the first eight ports, with packets behind it
+pub first-filled : (m b d n : ℕ) (out more appended behind : List ℕ) → m < 8 → length out ≡ n →
+    appended ≡ out ++ (first_empty ++ more) → behind ≡ filled (set appended (n + 5) d) (n + (10 + 4 * m)) b →
+    behind ≡ (out ++ packet_of 0 d (alone m b)) ++ more
+first-filled m b d n out more appended behind low len e g =
     let place : n + 5 - n ≡ 5 = omega arith in
-    let count : counted ≡ out ++ set first_empty 5 d =
-    f ∙ (ap (λ z. set z (n + 5) d) e ∙ (set-append_right out first_empty n (n + 5) d len (omega arith)
-    ∙ ap (λ i. out ++ set first_empty i d) place)) in
+    let count : set appended (n + 5) d ≡ out ++ set (first_empty ++ more) 5 d =
+    ap (λ z. set z (n + 5) d) e ∙ (set-append_right out (first_empty ++ more) n (n + 5) d len (omega arith)
+    ∙ ap (λ i. out ++ set (first_empty ++ more) i d) place) in
     g ∙ (ap (λ z. filled z (n + (10 + 4 * m)) b) count
-    ∙ (filled-behind out (set first_empty 5 d) n (10 + 4 * m) b len ∙ ap (λ z. out ++ z) (first-by m b d low)))
+    ∙ (filled-behind out (set (first_empty ++ more) 5 d) n (10 + 4 * m) b len
+    ∙ (ap (λ z. out ++ z) (first-by m b d more low) ∙ sym (append_assoc out (packet_of 0 d (alone m b)) more))))
+
+-- one alone
+pub one-filled : (m b d n : ℕ) (out appended behind : List ℕ) → m < 8 → length out ≡ n →
+    appended ≡ out ++ first_empty → behind ≡ filled (set appended (n + 5) d) (n + (10 + 4 * m)) b →
+    behind ≡ out ++ packet_of 0 d (alone m b)
+one-filled m b d n out appended behind low len e g =
+    first-filled m b d n out [] appended behind low len (e ∙ ap (λ z. out ++ z) (sym (append-nil first_empty))) g
+    ∙ append-nil (out ++ packet_of 0 d (alone m b))
+
+-- three behind one another
+
+length-first : (m b d : ℕ) → m < 8 → length (packet_of 0 d (alone m b)) ≡ 42
+length-first zero b d low = refl
+length-first (suc zero) b d low = refl
+length-first (suc (suc zero)) b d low = refl
+length-first (suc (suc (suc zero))) b d low = refl
+length-first (suc (suc (suc (suc zero)))) b d low = refl
+length-first (suc (suc (suc (suc (suc zero))))) b d low = refl
+length-first (suc (suc (suc (suc (suc (suc zero)))))) b d low = refl
+length-first (suc (suc (suc (suc (suc (suc (suc zero))))))) b d low = refl
+length-first (suc (suc (suc (suc (suc (suc (suc (suc m)))))))) b d low = absurd (omega arith)
+
+length-behind : (m b d n : ℕ) (out : List ℕ) → m < 8 → length out ≡ n →
+    length (out ++ packet_of 0 d (alone m b)) ≡ n + 42
+length-behind m b d n out low len =
+    length-append out (packet_of 0 d (alone m b)) ∙ ap₂ (λ i j. i + j) len (length-first m b d low)
+
+pub three-filled : (p d b1 b2 b3 n : ℕ) (out appended x y z : List ℕ) → p < 8 → length out ≡ n →
+    appended ≡ out ++ (first_empty ++ (first_empty ++ first_empty)) →
+    x ≡ filled (set appended (n + 5) d) (n + (10 + 4 * p)) b1 →
+    y ≡ filled (set x (n + 42 + 5) (next_dbc d)) (n + 42 + (10 + 4 * p)) b2 →
+    z ≡ filled (set y (n + 84 + 5) (next_dbc (next_dbc d))) (n + 84 + (10 + 4 * p)) b3 →
+    z ≡ out ++ fire_from p d (b1 ∷ b2 ∷ b3 ∷ [])
+three-filled p d b1 b2 b3 n out appended x y z low len e f g h =
+    let second = next_dbc d in
+    let third = next_dbc second in
+    let p1 = packet_of 0 d (alone p b1) in
+    let p2 = packet_of 0 second (alone p b2) in
+    let p3 = packet_of 0 third (alone p b3) in
+    let one : x ≡ (out ++ p1) ++ (first_empty ++ first_empty) =
+    first-filled p b1 d n out (first_empty ++ first_empty) appended x low len e f in
+    let behind_one : length (out ++ p1) ≡ n + 42 = length-behind p b1 d n out low len in
+    let two : y ≡ ((out ++ p1) ++ p2) ++ first_empty =
+    first-filled p b2 second (n + 42) (out ++ p1) first_empty x y low behind_one one g in
+    let place : n + 84 ≡ n + 42 + 42 = omega arith in
+    let three : z ≡ ((out ++ p1) ++ p2) ++ p3 =
+    one-filled p b3 third (n + 42 + 42) ((out ++ p1) ++ p2) y z low
+    (length-behind p b2 second (n + 42) (out ++ p1) low behind_one) two
+    (h ∙ ap (λ k. filled (set y (k + 5) third) (k + (10 + 4 * p)) b3) place) in
+    let quotient : 0 ≡ p / 8 = omega arith in
+    let remainder : p ≡ p % 8 = omega arith in
+    three ∙ (append_assoc (out ++ p1) p2 p3 ∙ (append_assoc out p1 (p2 ++ p3)
+    ∙ (ap (λ r. out ++ (p1 ++ (p2 ++ r))) (sym (append-nil p3))
+    ∙ ap₂ (λ k m. out ++ (packet_of k d (alone m b1) ++ (packet_of k second (alone m b2) ++
+    (packet_of k third (alone m b3) ++ [])))) quotient remainder)))

@@ -9,7 +9,7 @@ ghost use Rattle.mb_fire.specs.Running.{fire_from, dbc_behind};
 ghost use Rattle.mb_fire.specs.PortWriter.{Stands, fresh, longest, room, short_room, event_room, frame_size};
 ghost use Rattle.mb_fire.specs.Written.{fire_written};
 
-use crate::packet::put_packet;
+use crate::packet::{put_packet, put_three};
 use mb_message::{Buf, Ev, Short, data_len};
 use std::marker::Model;
 
@@ -185,6 +185,10 @@ fn put_bytes(port: u8, dbc: u8, bytes: &[u8], out: &mut Buf) -> u8
     ensures written { out.new.items ≡ out.old.items ++ fire_from port dbc bytes.now }
     ensures len { array_vec_len out.new ≡ array_vec_len out.old + frame_size (port / 8) * length bytes.now }
 {
+    if port < 8 && bytes.len() == 3 {
+        put_three(port, dbc, bytes[0], bytes[1], bytes[2], out);
+        return dbc.wrapping_add(24);
+    }
     let mut rest = bytes;
     let mut count = dbc;
     'bytes: while let Some((byte, tail)) = rest.split_first() {
