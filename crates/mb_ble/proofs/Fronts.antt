@@ -1,5 +1,6 @@
 -- What may be told ahead of a byte, and the facts of what one byte makes known.
-use Rattle.std.proofs.Common.{◌≡◌, ℕ, ◌+◌, ◌*◌, ◌<◌, ◌≤◌, Bool, true, false, Option, Some, None, List, [], ◌∷◌, ◌++◌, map, refl, ap, ap₂, sym, subst, ◌∙◌, arith, append_assoc, append-nil}
+use Rattle.std.proofs.Common.{◌≡◌, ℕ, ◌+◌, ◌*◌, ◌<◌, ◌≤◌, Bool, true, false, Option, Some, None, List, [], ◌∷◌, ◌++◌}
+use Rattle.std.proofs.Common.{map, refl, ap, ap₂, sym, subst, ◌∙◌, arith, append_assoc, append-nil}
 use Rattle.std.specs.Prelude.{if◌then◌else◌, ◌==◌, ◌||◌, nat_le}
 use Rattle.mb_message.specs.Signs.{ShortSign, RtSign, OpenSign, ByteSign, EndSign, AbortSign}
 use Rattle.mb_message.specs.declared.note.NoteKind.TheVariants.{StrayEnd, Undefined, Truncated}
@@ -11,8 +12,10 @@ use Rattle.mb_stream.proofs.OrderLemmas.{Each-append}
 use Rattle.mb_stream.specs.Groups.{Group, is_sysex, last_of}
 use Rattle.mb_stream.specs.Payload.{Spot, Entry, Heard, Silent}
 use Rattle.mb_stream.specs.Reading.{part_of, so_far}
-use Rattle.mb_stream.specs.Told.{Told, Marks, Notes, Known, known, begun_at, truncated_at, truncated, ended, status_told, realtime_known, stray, sysex_byte, one_of, odd_one}
-use Rattle.mb_stream.specs.Working.{data_news_by, data_news, news, pair_news, first_one_news, first_two_news, channel_news, common_news}
+use Rattle.mb_stream.specs.Told.{Told, Marks, Notes, Known, known_at, begun_at, truncated_at, truncated, ended}
+use Rattle.mb_stream.specs.Told.{status_told, realtime_known, stray, sysex_byte, one_of, odd_one}
+use Rattle.mb_stream.specs.Working.{data_news_by, data_news, news, pair_news, first_one_news, first_two_news}
+use Rattle.mb_stream.specs.Working.{channel_news, common_news}
 use Rattle.mb_ble.specs.Packets.{Token}
 use Rattle.mb_ble.specs.Reading.{unit_note}
 use Rattle.mb_ble.specs.News.{byte_news, token_news, news_from}
@@ -32,10 +35,13 @@ news-above (t ∷ ts) before low r =
     let le2 : s.mid ≤ s.up = rising-le s.mid s.up (groups_at before t) s.of_groups in
     let le3 : s.up ≤ s.high = rising-le s.up s.high (realtimes_at before t) s.realtimes in
     Each-append (Above low) (token_news before t) (news_from (t ∷ before) ts)
-    (Each-append (Above low) (unit_note before t) (byte_news before t) (rising-above low s.mid (unit_note before t) s.notes)
-    (subst (Each (Above low)) (sym (byte-two before t)) (Each-append (Above low) (groups_at before t) (realtimes_at before t)
+    (Each-append (Above low) (unit_note before t) (byte_news before t) (rising-above low s.mid (unit_note before t)
+    s.notes)
+    (subst (Each (Above low)) (sym (byte-two before t)) (Each-append (Above low) (groups_at before t)
+    (realtimes_at before t)
     (Aboves-lower low s.mid (groups_at before t) le1 (rising-above s.mid s.up (groups_at before t) s.of_groups))
-    (Aboves-lower low s.up (realtimes_at before t) (omega arith) (rising-above s.up s.high (realtimes_at before t) s.realtimes)))))
+    (Aboves-lower low s.up (realtimes_at before t) (omega arith) (rising-above s.up s.high (realtimes_at before t)
+    s.realtimes)))))
     (Aboves-lower low s.high (news_from (t ∷ before) ts) (omega arith) (news-above ts (t ∷ before) s.high s.rest))
 
 abbrev pub Not : ℕ → Known → Type 0
@@ -45,7 +51,8 @@ pub above-not : (offset : ℕ) (ks : List Known) → Each (Above (7 * offset + 5
 above-not offset [] a = tt
 above-not offset (k ∷ ks) a = (λ e. absurd (omega (arith, e.0, e.2, a.0.key_is)), above-not offset ks a.1)
 
-pub none-early : (offset : ℕ) (early whole : List Known) → AreEarly offset early → IsFront early whole → Each (Not offset) whole → early ≡ []
+pub none-early : (offset : ℕ) (early whole : List Known) → AreEarly offset early → IsFront early whole →
+    Each (Not offset) whole → early ≡ []
 none-early offset [] whole e f n = refl
 none-early offset (k ∷ ks) whole e f n = absurd (first (subst (Each (Not offset)) f.1 n))
   where
@@ -54,22 +61,28 @@ none-early offset (k ∷ ks) whole e f n = absurd (first (subst (Each (Not offse
 
 Each-ranks : (offset low : ℕ) (ks : List Known) → 2 ≤ low → Climb offset low ks → Each (Not offset) ks
 Each-ranks offset low [] le c = tt
-Each-ranks offset low (k ∷ ks) le c = (λ e. absurd (omega (arith, e.2, c.1)), Each-ranks offset k.rank ks (omega (arith, c.1)) c.2)
+Each-ranks offset low (k ∷ ks) le c = (
+  λ e. absurd (omega (arith, e.2, c.1)),
+  Each-ranks offset k.rank ks (omega (arith, c.1)) c.2,
+)
 
 -- before a data byte nothing is told ahead but a lone stamp
 pub data-not : (g : Group) (x : Spot) → is_data x.byte ≡ true → Each (Not x.at) (news g x)
 data-not g x e = by (is_realtime x.byte) (is_data x.byte) e
   where
-    by : (rt da : Bool) → da ≡ true → Each (Not x.at) (if rt then realtime_known x ∷ [] else (if da then data_news g.status g.data_bytes x else ended g x ++ status_told x))
+    by : (rt da : Bool) → da ≡ true → Each (Not x.at) (if rt then realtime_known x ∷ [] else
+        (if da then data_news g.status g.data_bytes x else ended g x ++ status_told x))
     by true da e = (λ h. absurd (omega (arith, h.2)), tt)
-    by false true e = Each-ranks x.at 2 (data_news g.status g.data_bytes x) (omega arith) (climb-data g.status g.data_bytes x)
+    by false true e = Each-ranks x.at 2 (data_news g.status g.data_bytes x) (omega arith)
+        (climb-data g.status g.data_bytes x)
     by false false e = absurd (no e)
       where
         no : false ≡ true → ⊥
         no e = cc
 
 -- the front that is early is a front of what the byte itself tells
-pub early-cut : (offset : ℕ) (early ns rest r : List Known) → AreEarly offset early → Each (Not offset) rest → ns ++ rest ≡ early ++ r → IsFront early ns
+pub early-cut : (offset : ℕ) (early ns rest r : List Known) → AreEarly offset early → Each (Not offset) rest → ns ++
+    rest ≡ early ++ r → IsFront early ns
 early-cut offset [] ns rest r e n h = (ns, refl)
 early-cut offset (k ∷ ks) [] rest r e n h = absurd (first (subst (Each (Not offset)) h n))
   where
@@ -95,11 +108,14 @@ pub front-off : (ps xs ys : List Known) → IsFront (ps ++ xs) (ps ++ ys) → Is
 front-off ps xs ys f = (f.0, cancel ps ys (xs ++ f.0) (f.1 ∙ append_assoc ps xs f.0))
 
 -- one more byte
-pub push_one : (es : List Entry) (x : Spot) (n : ℕ) → RisesTo 0 n es → n ≤ x.at → so_far (es ++ Heard x ∷ []) ≡ so_far es ++ news (last_of es) x
-push_one es x n r le = so_far-append es (Heard x ∷ []) (rises-to 0 n es (Heard x ∷ []) r (le, tt)) (rises-from 0 n es r) ∙ ap (λ z. so_far es ++ z) (append-nil (news (last_of es) x))
+pub push_one : (es : List Entry) (x : Spot) (n : ℕ) → RisesTo 0 n es → n ≤ x.at → so_far (es ++ Heard x ∷ []) ≡
+    so_far es ++ news (last_of es) x
+push_one es x n r le = so_far-append es (Heard x ∷ []) (rises-to 0 n es (Heard x ∷ []) r (le, tt))
+    (rises-from 0 n es r) ∙ ap (λ z. so_far es ++ z) (append-nil (news (last_of es) x))
 
 pub push_silent : (es : List Entry) (s n : ℕ) → RisesTo 0 n es → so_far (es ++ Silent s ∷ []) ≡ so_far es
-push_silent es s n r = so_far-append es (Silent s ∷ []) (rises-to 0 n es (Silent s ∷ []) r tt) (rises-from 0 n es r) ∙ append-nil (so_far es)
+push_silent es s n r = so_far-append es (Silent s ∷ []) (rises-to 0 n es (Silent s ∷ []) r tt) (rises-from 0 n es r) ∙
+    append-nil (so_far es)
 
 -- at a byte: the offset, ranks above 0, its moment, and nothing common early
 pub record Fact (x : Spot) (k : Known) : Type 0 where
@@ -109,9 +125,18 @@ pub record Fact (x : Spot) (k : Known) : Type 0 where
 
 climb-fact : (x : Spot) (low : ℕ) (ks : List Known) → 2 ≤ low → Climb x.at low ks → Each (Fact x) ks
 climb-fact x low [] le c = tt
-climb-fact x low (k ∷ ks) le c = (record { at = c.0; rank = omega (arith, c.1); common = λ h. absurd (omega (arith, c.1, h)) }, climb-fact x k.rank ks (omega (arith, c.1)) c.2)
+climb-fact x low (k ∷ ks) le c = (
+  record {
+    at = c.0;
+    rank = omega (arith, c.1);
+    common = λ h.
+        absurd (omega (arith, c.1, h));
+  },
+  climb-fact x k.rank ks (omega (arith, c.1)) c.2,
+)
 
-fact : (x : Spot) (rank : ℕ) (t : Told) → 0 < rank → (rank < 3 → is_common (t ∷ []) ≡ false) → Fact x (known rank x t)
+fact : (x : Spot) (rank : ℕ) (t : Told) → 0 < rank → (rank < 3 → is_common (t ∷ []) ≡ false) →
+    Fact x (known_at rank x t)
 fact x rank t a b = record { at = refl; rank = a; common = b }
 
 late : (rank : ℕ) (t : Told) → 3 ≤ rank → rank < 3 → is_common (t ∷ []) ≡ false
@@ -120,10 +145,12 @@ late rank t a b = absurd (omega arith)
 pub facts : (g : Group) (x : Spot) → Each (Fact x) (news g x)
 facts g x = by (is_realtime x.byte) (is_data x.byte)
   where
-    one : (t : Told) → Fact x (known 3 x t)
+    one : (t : Told) → Fact x (known_at 3 x t)
     one t = fact x 3 t (omega arith) (late 3 t (omega arith))
 
-    told : (a b c : Bool) → Each (Fact x) (if a then known 3 x (Marks OpenSign) ∷ [] else (if b then known 3 x (Marks (ShortSign 0xf6 0 0)) ∷ [] else (if c then known 3 x (Notes x.at Undefined) ∷ [] else [])))
+    told : (a b c : Bool) → Each (Fact x) (if a then known_at 3 x (Marks OpenSign) ∷ [] else
+        (if b then known_at 3 x (Marks (ShortSign 0xf6 0 0)) ∷ [] else (if c then known_at 3 x (Notes x.at Undefined) ∷
+        [] else [])))
     told true b c = (one (Marks OpenSign), tt)
     told false true c = (one (Marks (ShortSign 0xf6 0 0)), tt)
     told false false true = (one (Notes x.at Undefined), tt)
@@ -133,17 +160,22 @@ facts g x = by (is_realtime x.byte) (is_data x.byte)
     cut None = tt
     cut (Some at) = (fact x 1 (Notes at Truncated) (omega arith) (λ h. refl), tt)
 
-    ends : (e7 op : Bool) → Each (Fact x) (if e7 then (if op then known 3 x (Marks EndSign) ∷ [] else known 3 x (Notes x.at StrayEnd) ∷ []) else (if op then known 2 x (Marks AbortSign) ∷ [] else []))
+    ends : (e7 op : Bool) → Each (Fact x) (if e7 then (if op then known_at 3 x (Marks EndSign) ∷ [] else known_at 3 x
+        (Notes x.at StrayEnd) ∷ []) else (if op then known_at 2 x (Marks AbortSign) ∷ [] else []))
     ends true true = (one (Marks EndSign), tt)
     ends true false = (one (Notes x.at StrayEnd), tt)
     ends false true = (fact x 2 (Marks AbortSign) (omega arith) (λ h. refl), tt)
     ends false false = tt
 
-    by : (rt da : Bool) → Each (Fact x) (if rt then realtime_known x ∷ [] else (if da then data_news g.status g.data_bytes x else ended g x ++ status_told x))
+    by : (rt da : Bool) → Each (Fact x) (if rt then realtime_known x ∷ [] else
+        (if da then data_news g.status g.data_bytes x else ended g x ++ status_told x))
     by true da = (one (if is_undefined_realtime x.byte then Notes x.at Undefined else Marks (RtSign x.byte)), tt)
-    by false true = climb-fact x 2 (data_news g.status g.data_bytes x) (omega arith) (climb-data g.status g.data_bytes x)
+    by false true = climb-fact x 2 (data_news g.status g.data_bytes x) (omega arith) (climb-data g.status g.data_bytes
+        x)
     by false false = Each-append (Fact x) (ended g x) (status_told x)
-        (Each-append (Fact x) (truncated g x) (if x.byte == 0xf7 then (if is_sysex g then known 3 x (Marks EndSign) ∷ [] else known 3 x (Notes x.at StrayEnd) ∷ []) else (if is_sysex g then known 2 x (Marks AbortSign) ∷ [] else [])) (cut (begun_at g)) (ends (x.byte == 0xf7) (is_sysex g)))
+        (Each-append (Fact x) (truncated g x) (if x.byte == 0xf7 then (if is_sysex g then known_at 3 x (Marks EndSign) ∷
+        [] else known_at 3 x (Notes x.at StrayEnd) ∷ []) else (if is_sysex g then known_at 2 x (Marks AbortSign) ∷
+        [] else [])) (cut (begun_at g)) (ends (x.byte == 0xf7) (is_sysex g)))
         (told (x.byte == 0xf0) (x.byte == 0xf6) ((x.byte == 0xf4) || (x.byte == 0xf5)))
 
 pub each-front : (P : Known → Type 0) (xs ys : List Known) → Each P (xs ++ ys) → Each P xs
@@ -154,19 +186,23 @@ pub each-back : (P : Known → Type 0) (xs ys : List Known) → Each P (xs ++ ys
 each-back P [] ys a = a
 each-back P (x ∷ xs) ys a = each-back P xs ys a.1
 
-pub parts-same : (m : ℕ) (ks : List Known) → Each (λ k. k.moment ≡ m) ks → map part_of ks ≡ map (λ t. record { moment = m; told = t }) (map (λ (k : Known). k.told) ks)
+pub parts-same : (m : ℕ) (ks : List Known) → Each (λ k. k.moment ≡ m) ks → map part_of ks ≡ map (λ t.
+    record { moment = m; told = t }) (map (λ (k : Known). k.told) ks)
 parts-same m [] a = refl
-parts-same m (k ∷ ks) a = ap₂ (λ p ps. p ∷ ps) (ap (λ n. record { moment = n; told = k.told }) a.0) (parts-same m ks a.1)
+parts-same m (k ∷ ks) a = ap₂ (λ p ps. p ∷ ps) (ap (λ n. record { moment = n; told = k.told }) a.0)
+    (parts-same m ks a.1)
 
 pub common-append : (xs ys : List Told) → is_common (xs ++ ys) ≡ (is_common xs || is_common ys)
 common-append [] ys = refl
 common-append (x ∷ xs) ys = by x (common-append xs ys)
   where
-    by : (x : Told) → is_common (xs ++ ys) ≡ (is_common xs || is_common ys) → is_common (x ∷ (xs ++ ys)) ≡ (is_common (x ∷ xs) || is_common ys)
+    by : (x : Told) → is_common (xs ++ ys) ≡ (is_common xs || is_common ys) → is_common (x ∷ (xs ++ ys)) ≡
+        (is_common (x ∷ xs) || is_common ys)
     by (Notes at k) e = e
     by (Marks (ShortSign s a b)) e = ors (nat_le 0xf0 s) e
       where
-        ors : (c : Bool) → is_common (xs ++ ys) ≡ (is_common xs || is_common ys) → (c || is_common (xs ++ ys)) ≡ ((c || is_common xs) || is_common ys)
+        ors : (c : Bool) → is_common (xs ++ ys) ≡ (is_common xs || is_common ys) → (c || is_common (xs ++ ys)) ≡
+            ((c || is_common xs) || is_common ys)
         ors true e = refl
         ors false e = e
     by (Marks (RtSign b)) e = e
@@ -196,11 +232,13 @@ timely-data : (st : Option ℕ) (ds : List Spot) (x : Spot) → Each (Timely x.m
 timely-data None ds x = (refl, tt)
 timely-data (Some s) ds x = by (s == 0xf0)
   where
-    of_channel : (k : ℕ) (one : Bool) → Each (Timely x.moment) (if one then one_of s x ∷ [] else pair_news s (odd_one ds) x)
+    of_channel : (k : ℕ) (one : Bool) → Each (Timely x.moment) (if one then one_of s x ∷ [] else
+        pair_news s (odd_one ds) x)
     of_channel k true = (refl, tt)
     of_channel k false = timely-two s (odd_one ds) x
 
-    of_common : (none one : Bool) → Each (Timely x.moment) (if none then stray x ∷ [] else (if one then first_one_news s ds x else first_two_news s ds x))
+    of_common : (none one : Bool) → Each (Timely x.moment) (if none then stray x ∷ [] else
+        (if one then first_one_news s ds x else first_two_news s ds x))
     of_common true one = (refl, tt)
     of_common false true = timely-first_one s ds x
     of_common false false = timely-first_two s ds x
@@ -214,14 +252,17 @@ timely-data (Some s) ds x = by (s == 0xf0)
     counted (Some k) true = piece k true
     counted (Some k) false = piece k false
 
-    by : (sysex : Bool) → Each (Timely x.moment) (if sysex then sysex_byte x ∷ [] else data_news_by (data_length s) (is_channel s) s ds x)
+    by : (sysex : Bool) → Each (Timely x.moment) (if sysex then sysex_byte x ∷ [] else data_news_by (data_length s)
+        (is_channel s) s ds x)
     by true = (refl, tt)
     by false = counted (data_length s) (is_channel s)
 
 pub timely : (g : Group) (x : Spot) → Each (Timely x.moment) (news g x)
 timely g x = by (is_realtime x.byte) (is_data x.byte)
   where
-    told : (a b c : Bool) → Each (Timely x.moment) (if a then known 3 x (Marks OpenSign) ∷ [] else (if b then known 3 x (Marks (ShortSign 0xf6 0 0)) ∷ [] else (if c then known 3 x (Notes x.at Undefined) ∷ [] else [])))
+    told : (a b c : Bool) → Each (Timely x.moment) (if a then known_at 3 x (Marks OpenSign) ∷ [] else
+        (if b then known_at 3 x (Marks (ShortSign 0xf6 0 0)) ∷ [] else (if c then known_at 3 x (Notes x.at Undefined) ∷
+        [] else [])))
     told true b c = (refl, tt)
     told false true c = (refl, tt)
     told false false true = (refl, tt)
@@ -231,15 +272,20 @@ timely g x = by (is_realtime x.byte) (is_data x.byte)
     cut None = tt
     cut (Some at) = (refl, tt)
 
-    ends : (e7 op : Bool) → Each (Timely x.moment) (if e7 then (if op then known 3 x (Marks EndSign) ∷ [] else known 3 x (Notes x.at StrayEnd) ∷ []) else (if op then known 2 x (Marks AbortSign) ∷ [] else []))
+    ends : (e7 op : Bool) → Each (Timely x.moment) (if e7 then (if op then known_at 3 x (Marks EndSign) ∷ [] else
+        known_at 3 x (Notes x.at StrayEnd) ∷ []) else (if op then known_at 2 x (Marks AbortSign) ∷ [] else []))
     ends true true = (refl, tt)
     ends true false = (refl, tt)
     ends false true = (refl, tt)
     ends false false = tt
 
-    by : (rt da : Bool) → Each (Timely x.moment) (if rt then realtime_known x ∷ [] else (if da then data_news g.status g.data_bytes x else ended g x ++ status_told x))
+    by : (rt da : Bool) → Each (Timely x.moment) (if rt then realtime_known x ∷ [] else
+        (if da then data_news g.status g.data_bytes x else ended g x ++ status_told x))
     by true da = (refl, tt)
     by false true = timely-data g.status g.data_bytes x
     by false false = Each-append (Timely x.moment) (ended g x) (status_told x)
-        (Each-append (Timely x.moment) (truncated g x) (if x.byte == 0xf7 then (if is_sysex g then known 3 x (Marks EndSign) ∷ [] else known 3 x (Notes x.at StrayEnd) ∷ []) else (if is_sysex g then known 2 x (Marks AbortSign) ∷ [] else [])) (cut (begun_at g)) (ends (x.byte == 0xf7) (is_sysex g)))
+        (Each-append (Timely x.moment) (truncated g x) (if x.byte == 0xf7 then
+        (if is_sysex g then known_at 3 x (Marks EndSign) ∷ [] else known_at 3 x (Notes x.at StrayEnd) ∷ []) else
+        (if is_sysex g then known_at 2 x (Marks AbortSign) ∷ [] else [])) (cut (begun_at g))
+        (ends (x.byte == 0xf7) (is_sysex g)))
         (told (x.byte == 0xf0) (x.byte == 0xf6) ((x.byte == 0xf4) || (x.byte == 0xf5)))

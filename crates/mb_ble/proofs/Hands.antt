@@ -1,5 +1,6 @@
 -- A reader of groups that was placed and read a piece.
-use Rattle.std.proofs.Common.{◌≡◌, ℕ, ◌+◌, List, [], ◌∷◌, ◌++◌, length, map, suc, Bool, true, false, refl, arith, ◌∙◌, ap, sym, subst, inl, inr}
+use Rattle.std.proofs.Common.{◌≡◌, ℕ, ◌+◌, List, [], ◌∷◌, ◌++◌, length, map, suc, Bool, true, false, refl, arith, ◌∙◌}
+use Rattle.std.proofs.Common.{ap, sym, subst, inl, inr}
 use Rattle.std.specs.Prelude.{◌⊎◌, ◌==◌}
 use Rattle.std.proofs.lemmas.Bool.Decides.{nat_tests}
 use Rattle.std.proofs.lemmas.List.{append-nil}
@@ -13,7 +14,9 @@ use Rattle.mb_ble.specs.Content.{Hands, is_common}
 use Rattle.mb_message.specs.Front.{IsFront}
 use Rattle.mb_stream.specs.ReaderLaw.{has_short}
 
-pub hands_lem : (was p now : State) (at : ℕ) (piece left : List ℕ) (seen : List Told) → p.offset ≡ at → now.offset + length left ≡ p.offset + length piece → p ≡ record was { offset = at } → ((entries : List Entry) → Stands was entries (so_far entries) → Stands p entries (so_far entries)) →
+pub hands_lem : (was p now : State) (at : ℕ) (piece left : List ℕ) (seen : List Told) → p.offset ≡ at →
+    now.offset + length left ≡ p.offset + length piece → p ≡ record was { offset = at } → ((entries : List Entry) →
+    Stands was entries (so_far entries) → Stands p entries (so_far entries)) →
     NextSays p now piece left seen →
     Hands was now at piece left seen
 hands_lem was p now at piece left seen there end same stands next = record {
@@ -21,13 +24,18 @@ hands_lem was p now at piece left seen there end same stands next = record {
   there = there;
   offset = end ∙ ap (λ n. n + length piece) there;
   place = λ entries told how st. by_how entries told how st;
-  next = λ moment entries told st front. subst (λ z. DinGoes p now moment piece left seen entries told z) (append-nil (heard_from p.offset moment piece))
-      (next moment entries told [] st tt (subst (λ z. IsFront told (so_far (entries ++ z))) (sym (append-nil (heard_from p.offset moment piece))) front));
+  next = λ moment entries told st front. subst (λ z. DinGoes p now moment piece left seen entries told z)
+      (append-nil (heard_from p.offset moment piece))
+      (next moment entries told [] st tt (subst (λ z. IsFront told (so_far (entries ++ z)))
+      (sym (append-nil (heard_from p.offset moment piece))) front));
 }
   where
-    by_how : (entries : List Entry) (told : List Known) → (was.offset ≡ at) ⊎ (told ≡ so_far entries) → Stands was entries told → Stands p entries told
-    by_how entries told (inl e) st = subst (λ z. Stands z entries told) (sym (same ∙ ap (λ (n : ℕ). record was { offset = n }) (sym e))) st
-    by_how entries told (inr e) st = subst (λ z. Stands p entries z) (sym e) (stands entries (subst (λ z. Stands was entries z) e st))
+    by_how : (entries : List Entry) (told : List Known) → (was.offset ≡ at) ⊎ (told ≡ so_far entries) →
+        Stands was entries told → Stands p entries told
+    by_how entries told (inl e) st = subst (λ z. Stands z entries told)
+        (sym (same ∙ ap (λ (n : ℕ). record was { offset = n }) (sym e))) st
+    by_how entries told (inr e) st = subst (λ z. Stands p entries z) (sym e)
+        (stands entries (subst (λ z. Stands was entries z) e st))
 
 pub run_common : (bs : List ℕ) → is_common (map Marks (map ByteSign bs)) ≡ false
 run_common [] = refl

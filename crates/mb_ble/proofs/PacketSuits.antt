@@ -1,13 +1,17 @@
 -- What is read of the parts of any frames suits, and is at most two marks a byte.
-use Rattle.std.proofs.Common.{◌≡◌, ℕ, suc, zero, ◌+◌, ◌*◌, ◌≤◌, Bool, true, false, Option, Some, None, List, [], ◌∷◌, length, refl, sym, ap, ◌∙◌, subst, arith, length-append}
+use Rattle.std.proofs.Common.{◌≡◌, ℕ, suc, zero, ◌+◌, ◌*◌, ◌≤◌, Bool, true, false, Option, Some, None, List, [], ◌∷◌}
+use Rattle.std.proofs.Common.{length, refl, sym, ap, ◌∙◌, subst, arith, length-append}
 use Rattle.std.specs.Prelude.{nat_lt, if◌then◌else◌}
 use Rattle.mb_message.specs.Signs.{Sign}
 use Rattle.mb_frames.specs.Frames.{FramePart, FrameBegin, FrameByte, FrameEnd, parts}
-use Rattle.mb_stream.proofs.ByteKinds.{Need, Kind, DataKind, ChannelKind, CommonKind, TuneKind, StartKind, EndKind, OtherKind, RtKind, OtherRtKind, kind}
+use Rattle.mb_stream.proofs.ByteKinds.{Need, Kind, DataKind, ChannelKind, CommonKind, TuneKind, StartKind, EndKind}
+use Rattle.mb_stream.proofs.ByteKinds.{OtherKind, RtKind, OtherRtKind, kind}
 use Rattle.mb_stream.proofs.Machine.{Reader, Rest, Waits, Ready, Begun, Inside, ends, tells, after, is_inside}
 use Rattle.mb_stream.proofs.Suits.{Suit}
 use Rattle.mb_stream.proofs.ReadMarks.{Good, Grows, grows, open_all, Suit-append, Suit-read}
-use Rattle.mb_ble.proofs.PacketMachine.{Where, AtHeader, AtSkipped, AtStamped, AtBody, Packeted, runs_after, resumes, cut, taken, in_stamp, between, at_byte, byte_tells, part_after, part_tells, read_parts, ble_marks}
+use Rattle.mb_ble.proofs.PacketMachine.{Where, AtHeader, AtSkipped, AtStamped, AtBody, Packeted, runs_after, resumes}
+use Rattle.mb_ble.proofs.PacketMachine.{cut, taken, in_stamp, between, at_byte, byte_tells, part_after, part_tells}
+use Rattle.mb_ble.proofs.PacketMachine.{read_parts, ble_marks}
 use Rattle.mb_frames.specs.Counting.{counted_parts, rest_parts}
 use Rattle.mb_frames.proofs.Steps.{parts-counted}
 
@@ -99,13 +103,15 @@ keeps-taken r q b g h =
 abbrev KeepsTo : Reader → Packeted → List Sign → ℕ → Type 0
 KeepsTo r p2 ts bytes = Keeps r p2.reader p2.runs ts bytes
 
-keeps-byte : (w : Where) (r : Reader) (q : Option (Need × ℕ)) (b : ℕ) → Good r → GoodRuns q → KeepsTo r (at_byte w r q b) (byte_tells w r b) 1
+keeps-byte : (w : Where) (r : Reader) (q : Option (Need × ℕ)) (b : ℕ) → Good r → GoodRuns q →
+    KeepsTo r (at_byte w r q b) (byte_tells w r b) 1
 keeps-byte AtHeader r q b g h = keeps-same r q 1 g h
 keeps-byte AtSkipped r q b g h = keeps-same r q 1 g h
 keeps-byte AtStamped r q b g h = keeps-taken r q b g h
 keeps-byte AtBody r q b g h = by (nat_lt b 128)
   where
-    by : (c : Bool) → KeepsTo r (if c then taken r q (kind b) b else in_stamp r q) (if c then tells r (kind b) b else []) 1
+    by : (c : Bool) → KeepsTo r (if c then taken r q (kind b) b else in_stamp r q) (if c then tells r (kind b) b else
+        []) 1
     by true = keeps-taken r q b g h
     by false = keeps-same r q 1 g h
 
@@ -118,7 +124,8 @@ abbrev count_all : List FramePart → ℕ
 count_all [] = 0
 count_all (x ∷ xs) = count x + count_all xs
 
-keeps-part : (p : Packeted) (x : FramePart) → Good p.reader → GoodRuns p.runs → KeepsTo p.reader (part_after p x) (part_tells p x) (count x)
+keeps-part : (p : Packeted) (x : FramePart) → Good p.reader → GoodRuns p.runs → KeepsTo p.reader (part_after p x)
+    (part_tells p x) (count x)
 keeps-part p (FrameBegin len) g h = keeps-same p.reader None 0 g tt
 keeps-part p (FrameByte b) g h = keeps-byte p.place p.reader p.runs b g h
 keeps-part p FrameEnd g h = record {
@@ -129,18 +136,25 @@ keeps-part p FrameEnd g h = record {
   few = omega (arith, ap length (cut-ends p.reader));
 }
 
-parts-Suit : (xs : List FramePart) (p : Packeted) → Good p.reader → GoodRuns p.runs → Suit (is_inside p.reader) (read_parts p xs)
+parts-Suit : (xs : List FramePart) (p : Packeted) → Good p.reader → GoodRuns p.runs →
+    Suit (is_inside p.reader) (read_parts p xs)
 parts-Suit [] p g h = Suit-read p.reader [] g
 parts-Suit (x ∷ xs) p g h =
     let s : KeepsTo p.reader (part_after p x) (part_tells p x) (count x) = keeps-part p x g h in
     Suit-append (is_inside p.reader) (part_tells p x) (read_parts (part_after p x) xs) s.suit
     (subst (λ o. Suit o (read_parts (part_after p x) xs)) (sym s.opens) (parts-Suit xs (part_after p x) s.good s.runs))
 
-parts-few : (xs : List FramePart) (p : Packeted) → Good p.reader → GoodRuns p.runs → length (read_parts p xs) ≤ 2 * count_all xs + length (ends p.reader)
+parts-few : (xs : List FramePart) (p : Packeted) → Good p.reader → GoodRuns p.runs → length (read_parts p xs) ≤ 2 *
+    count_all xs + length (ends p.reader)
 parts-few [] p g h = omega arith
 parts-few (x ∷ xs) p g h =
     let s : KeepsTo p.reader (part_after p x) (part_tells p x) (count x) = keeps-part p x g h in
-    omega (arith, s.few, length-append (part_tells p x) (read_parts (part_after p x) xs), parts-few xs (part_after p x) s.good s.runs)
+    omega (
+      arith,
+      s.few,
+      length-append (part_tells p x) (read_parts (part_after p x) xs),
+      parts-few xs (part_after p x) s.good s.runs,
+    )
 
 rest-count : (left : ℕ) (bytes : List ℕ) → count_all (rest_parts left bytes) ≤ length bytes
 rest-count zero [] = omega arith

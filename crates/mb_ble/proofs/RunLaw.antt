@@ -1,5 +1,7 @@
 -- A run that was handed to the reader of groups.
-use Rattle.std.proofs.Common.{◌≡◌, ℕ, zero, suc, ◌+◌, ◌-◌, ◌*◌, ◌<◌, ◌≤◌, Bool, true, false, Option, Some, None, List, [], ◌∷◌, ◌++◌, length, map, refl, ap, ap₂, sym, subst, ◌∙◌, arith, append_assoc, append-nil, inl, inr}
+use Rattle.std.proofs.Common.{◌≡◌, ℕ, zero, suc, ◌+◌, ◌-◌, ◌*◌, ◌<◌, ◌≤◌, Bool, true, false, Option, Some, None, List}
+use Rattle.std.proofs.Common.{[], ◌∷◌, ◌++◌, length, map, refl, ap, ap₂, sym, subst, ◌∙◌, arith, append_assoc}
+use Rattle.std.proofs.Common.{append-nil, inl, inr}
 use Rattle.std.specs.Prelude.{if◌then◌else◌, nat_lt, ◌==◌, take, drop, IfNone, IfSome, OnSome}
 use Rattle.mb_message.specs.Bytes.{is_status}
 use Rattle.mb_message.specs.declared.event.Ev.TheVariants as ev
@@ -43,16 +45,26 @@ advanced-zero : (c : Content) (n : ℕ) → n ≡ 0 → advanced c n ≡ c
 advanced-zero c n e = ap (λ k. advanced c k) e
 
 advanced-some : (c : Content) (n : ℕ) → 0 < n → advanced c n ≡ record c { offset = c.offset + n; head = head.Inside }
-advanced-some c n pos = ap (λ b. if b then c else record c { offset = c.offset + n; head = head.Inside }) (not_zero n pos)
+advanced-some c n pos = ap (λ b. if b then c else record c { offset = c.offset + n; head = head.Inside })
+    (not_zero n pos)
   where
     not_zero : (n : ℕ) → 0 < n → (n == 0) ≡ false
     not_zero n pos = grind (arith, nat_tests)
 
-pub run_law : (was mid now : Content) (input handed left final : List ℕ) (len used : ℕ) (seen : List Told) → 0 < length input → len ≤ length input → take len input ≡ data_front input → handed ≡ take len input → used ≡ len - length left → final ≡ drop used input →
-    Hands was.din mid.din was.offset handed left seen → mid ≡ record was { din = mid.din } → now ≡ advanced mid used → is_heady was.head ≡ false → ((b : ℕ) (bs : List ℕ) → input ≡ b ∷ bs → nat_lt b 128 ≡ true) →
-    ((at b : ℕ) (bs : List ℕ) → input ≡ b ∷ bs → was.head ≡ head.Stamped at → nat_lt b 128 ≡ true → MayRun was.din true) → HasOpen was.din true → Reads was now input final seen
-run_law was mid now [] handed left final len used seen pos short front_is piece u fin hands is moves a lows lone open_law = absurd (omega (arith, pos))
-run_law was mid now (b ∷ bs) handed left final len used seen pos short front_is piece u fin hands is moves a lows lone open_law = record { reads = λ before told room following holds fits front. by before told room following holds fits front }
+pub run_law : (was mid now : Content) (input handed left final : List ℕ) (len used : ℕ) (seen : List Told) →
+    0 < length input → len ≤ length input → take len input ≡ data_front input → handed ≡ take len input →
+    used ≡ len - length left → final ≡ drop used input →
+    Hands was.din mid.din was.offset handed left seen → mid ≡ record was { din = mid.din } → now ≡ advanced mid used →
+    is_heady was.head ≡ false → ((b : ℕ) (bs : List ℕ) → input ≡ b ∷ bs → nat_lt b 128 ≡ true) →
+    ((at b : ℕ) (bs : List ℕ) → input ≡ b ∷ bs → was.head ≡ head.Stamped at → nat_lt b 128 ≡ true →
+    MayRun was.din true) → HasOpen was.din true → Reads was now input final seen
+run_law was mid now [] handed left final len used seen pos short front_is piece u fin hands is moves a lows lone
+    open_law = absurd (omega (arith, pos))
+run_law was mid now (b ∷ bs) handed left final len used seen pos short front_is piece u fin hands is moves a lows lone
+    open_law = record {
+      reads = λ before told room following holds fits front. by before told room following holds fits
+          front;
+    }
   where
     low : nat_lt b 128 ≡ true
     low = lows b bs refl
@@ -72,9 +84,12 @@ run_law was mid now (b ∷ bs) handed left final len used seen pos short front_i
     size : length handed ≡ len
     size = ap length piece ∙ length-take len (b ∷ bs) short
 
-    by : (before : List Token) (told : List Known) (room : ℕ) (following : List ℕ) → Holds was before told → length (b ∷ bs) ≤ room → IsFront told (news_from before (tokens was.offset (last before) (rest_parts room ((b ∷ bs) ++ following)))) → Read was now (b ∷ bs) final seen before told room following
+    by : (before : List Token) (told : List Known) (room : ℕ) (following : List ℕ) → Holds was before told →
+        length (b ∷ bs) ≤ room → IsFront told (news_from before (tokens was.offset (last before)
+        (rest_parts room ((b ∷ bs) ++ following)))) → Read was now (b ∷ bs) final seen before told room following
     by before told zero following holds fits front = absurd (omega arith)
-    by before told (suc room) following holds fits front = with_taken g.taken g.front (run_dined hands.placed mid.din handed left seen es o m hands.there hands.offset placed handed_low g)
+    by before told (suc room) following holds fits front = with_taken g.taken g.front (run_dined hands.placed mid.din
+        handed left seen es o m hands.there hands.offset placed handed_low g)
       where
         o : ℕ
         o = was.offset
@@ -89,7 +104,8 @@ run_law was mid now (b ∷ bs) handed left final len used seen pos short front_i
         t = Data was.offset b
 
         r0 : Ready was b before holds.stamp (Data was.offset b)
-        r0 = ready was.head was b before told room (bs ++ following) refl a (λ e. low) (λ at e l. lone at b bs refl e l) holds true low front
+        r0 = ready was.head was b before told room (bs ++ following) refl a (λ e. low) (λ at e l. lone at b bs refl e l)
+            holds true low front
 
         rest : List Known
         rest = news_from (t ∷ before) (tokens (was.offset + 1) t (rest_parts room (bs ++ following)))
@@ -98,10 +114,15 @@ run_law was mid now (b ∷ bs) handed left final len used seen pos short front_i
         ns = news (last_of es) (spot before was.offset b)
 
         there : IsFront (holds.stamp ++ holds.early) (holds.stamp ++ (ns ++ rest))
-        there = subst (λ z. IsFront z (holds.stamp ++ (ns ++ rest))) holds.told_is (subst (λ z. IsFront told z) (ap (λ z. (z ++ ns) ++ rest) r0.note ∙ append_assoc holds.stamp ns rest) (subst (λ u. IsFront told (token_news before u ++ news_from (u ∷ before) (tokens (o + 1) u (rest_parts room (bs ++ following))))) r0.kind front))
+        there = subst (λ z. IsFront z (holds.stamp ++ (ns ++ rest))) holds.told_is (subst (λ z. IsFront told z)
+            (ap (λ z. (z ++ ns) ++ rest) r0.note ∙ append_assoc holds.stamp ns rest)
+            (subst (λ u. IsFront told (token_news before u ++
+            news_from (u ∷ before) (tokens (o + 1) u (rest_parts room (bs ++ following))))) r0.kind front))
 
         early : holds.early ≡ []
-        early = none-early o holds.early (ns ++ rest) holds.are_early (front-off holds.stamp holds.early (ns ++ rest) there) (Each-append (Not o) ns rest (data-not (last_of es) (spot before o b) low) (later-not (t ∷ before) t o room (bs ++ following)))
+        early = none-early o holds.early (ns ++ rest) holds.are_early (front-off holds.stamp holds.early (ns ++ rest)
+            there) (Each-append (Not o) ns rest (data-not (last_of es) (spot before o b) low) (later-not (t ∷ before) t
+            o room (bs ++ following)))
 
         told_is : told ≡ holds.stamp
         told_is = holds.told_is ∙ ap (λ z. holds.stamp ++ z) early ∙ append-nil holds.stamp
@@ -112,19 +133,31 @@ run_law was mid now (b ∷ bs) handed left final len used seen pos short front_i
         placed : Stands hands.placed es (so_far es)
         placed = hands.place es (so_far es) (inr refl) stands
 
-        grows : so_far (es ++ heard_from hands.placed.offset m handed) ≡ so_far es ++ stream.news_from (last_of es) (heard_from hands.placed.offset m handed)
-        grows = so_far-append es (heard_from hands.placed.offset m handed) (rises-to 0 hands.placed.offset es (heard_from hands.placed.offset m handed) placed.rises (heard-from hands.placed.offset m handed hands.placed.offset (omega arith))) (rises-from 0 hands.placed.offset es placed.rises)
+        grows : so_far (es ++ heard_from hands.placed.offset m handed) ≡ so_far es ++
+            stream.news_from (last_of es) (heard_from hands.placed.offset m handed)
+        grows = so_far-append es (heard_from hands.placed.offset m handed) (rises-to 0 hands.placed.offset es
+            (heard_from hands.placed.offset m handed) placed.rises (heard-from hands.placed.offset m handed
+            hands.placed.offset (omega arith))) (rises-from 0 hands.placed.offset es placed.rises)
 
         g : DinGoes hands.placed mid.din m handed left seen es (so_far es) (heard_from o m handed)
-        g = subst (λ n. DinGoes hands.placed mid.din m handed left seen es (so_far es) (heard_from n m handed)) hands.there (hands.next m es (so_far es) placed ((stream.news_from (last_of es) (heard_from hands.placed.offset m handed), grows)))
+        g = subst (λ n. DinGoes hands.placed mid.din m handed left seen es (so_far es) (heard_from n m handed))
+            hands.there (hands.next m es (so_far es) placed ((
+              stream.news_from (last_of es)
+                  (heard_from hands.placed.offset m handed),
+              grows,
+            )))
 
-        with_taken : (T : List ℕ) → handed ≡ T ++ left → RunDined mid.din T seen es o m → Read was now (b ∷ bs) final seen before told (suc room) following
+        with_taken : (T : List ℕ) → handed ≡ T ++ left → RunDined mid.din T seen es o m →
+            Read was now (b ∷ bs) final seen before told (suc room) following
         with_taken [] f d =
             let none : used ≡ 0 = omega (arith, u, size, ap length f) in
             let fin_is : final ≡ b ∷ bs = fin ∙ ap (λ n. drop n (b ∷ bs)) none in
             let now_is : now ≡ record was { din = mid.din } = moves ∙ advanced-zero mid used none ∙ is in
             let quiet : seen ≡ [] = sym d.answer_is ∙ ap (map (λ (k : Known). k.told)) d.fresh_is in
-            subst (λ z. Read was now (b ∷ bs) z seen before told (suc room) following) (sym fin_is) (subst (λ c. Read was c (b ∷ bs) (b ∷ bs) seen before told (suc room) following) (sym now_is) (subst (λ ts. Read was (record was { din = mid.din }) (b ∷ bs) (b ∷ bs) ts before told (suc room) following) (sym quiet)
+            subst (λ z. Read was now (b ∷ bs) z seen before told (suc room) following) (sym fin_is)
+            (subst (λ c. Read was c (b ∷ bs) (b ∷ bs) seen before told (suc room) following) (sym now_is)
+            (subst (λ ts. Read was (record was { din = mid.din }) (b ∷ bs) (b ∷ bs) ts before told (suc room)
+            following) (sym quiet)
             (read-none was (record was { din = mid.din }) (b ∷ bs) [] before told (suc room) following [] refl
             (record {
               clock_is = holds.clock_is;
@@ -135,13 +168,15 @@ run_law was mid now (b ∷ bs) handed left final len used seen pos short front_i
               early = [];
               told_is = append-nil told ∙ told_is ∙ sym (append-nil holds.stamp);
               stamp_is = holds.stamp_is;
-              din = subst (λ z. Stands mid.din es z) (sym (append-nil (so_far es))) (subst (λ z. Stands mid.din z (so_far z)) (append-nil es) d.stands);
+              din = subst (λ z. Stands mid.din es z) (sym (append-nil (so_far es)))
+                  (subst (λ z. Stands mid.din z (so_far z)) (append-nil es) d.stands);
               are_early = tt;
               here = inl refl;
               low = zero-off d.offset;
               rested = λ e. refl;
             })
-            refl (subst (λ z. IsFront z (news_from before (tokens o (last before) (rest_parts (suc room) ((b ∷ bs) ++ following))))) (sym (append-nil told)) front))))
+            refl (subst (λ z. IsFront z (news_from before (tokens o (last before) (rest_parts (suc room) ((b ∷ bs) ++
+            following))))) (sym (append-nil told)) front))))
           where
             zero-off : mid.din.offset ≡ o + length {A = ℕ} [] → mid.din.offset ≤ o
             zero-off e = omega (arith, e)
@@ -150,15 +185,21 @@ run_law was mid now (b ∷ bs) handed left final len used seen pos short front_i
             let y_is : y ≡ b = sym (heads b y (data_front bs) (T ++ left) same) in
             let f' : handed ≡ (b ∷ T) ++ left = f ∙ ap (λ z. z ∷ (T ++ left)) y_is in
             let d' : RunDined mid.din (b ∷ T) seen es o m = subst (λ z. RunDined mid.din (z ∷ T) seen es o m) y_is d in
-            let n : used ≡ length (b ∷ T) = counts used len (length handed) (length (b ∷ T)) (length left) u size (ap length f' ∙ length-append (b ∷ T) left) in
-            let whole : b ∷ bs ≡ (b ∷ T) ++ (left ++ beyond) = cut ∙ ap (λ z. z ++ beyond) f' ∙ append_assoc (b ∷ T) left beyond in
+            let n : used ≡ length (b ∷ T) = counts used len (length handed) (length (b ∷ T)) (length left) u size
+            (ap length f' ∙ length-append (b ∷ T) left) in
+            let whole : b ∷ bs ≡ (b ∷ T) ++ (left ++ beyond) = cut ∙ ap (λ z. z ++ beyond) f' ∙
+            append_assoc (b ∷ T) left beyond in
             let final_is : final ≡ left ++ beyond = fin ∙ ap₂ drop n whole ∙ drop-front (b ∷ T) (left ++ beyond) in
             let now_is : now ≡ record was { offset = o + length (b ∷ T); head = head.Inside; din = mid.din } =
             moves ∙ advanced-some mid used (omega (arith, n)) ∙ ap₂ stepped is n in
             let lows2 : Low (b ∷ T) = low-front (b ∷ T) left (subst Low f' handed_low) in
             let op : is_sysex (last_of es) ≡ true = open_law es stands in
-            subst (λ z. Read was now (b ∷ bs) z seen before told (suc room) following) (sym final_is) (subst (λ z. Read was now z (left ++ beyond) seen before told (suc room) following) (sym whole)
-            (run_taken was now b T (left ++ beyond) seen before told (suc room) following holds.stamp mid.din holds low lows2.1 r0.kind (r0.note ∙ sym told_is) op (fits_in (length (b ∷ bs)) (length (b ∷ T)) (length (left ++ beyond)) (suc room) (ap length whole ∙ length-append (b ∷ T) (left ++ beyond)) fits) d' now_is))
+            subst (λ z. Read was now (b ∷ bs) z seen before told (suc room) following) (sym final_is)
+            (subst (λ z. Read was now z (left ++ beyond) seen before told (suc room) following) (sym whole)
+            (run_taken was now b T (left ++ beyond) seen before told (suc room) following holds.stamp mid.din holds low
+            lows2.1 r0.kind (r0.note ∙ sym told_is) op (fits_in (length (b ∷ bs)) (length (b ∷ T))
+            (length (left ++ beyond)) (suc room) (ap length whole ∙ length-append (b ∷ T) (left ++ beyond)) fits) d'
+            now_is))
           where
             heads : (a c : ℕ) (xs ys : List ℕ) → a ∷ xs ≡ c ∷ ys → a ≡ c
             heads a c xs ys e = cc
@@ -170,9 +211,11 @@ run_law was mid now (b ∷ bs) handed left final len used seen pos short front_i
             fits_in i k r n x y = omega (arith, x, y)
 
 -- what is left of the piece
-pos_len : (input : List ℕ) (len : ℕ) → 0 < length input → take len input ≡ data_front input → ((b : ℕ) (bs : List ℕ) → input ≡ b ∷ bs → nat_lt b 128 ≡ true) → 0 < len
+pos_len : (input : List ℕ) (len : ℕ) → 0 < length input → take len input ≡ data_front input →
+    ((b : ℕ) (bs : List ℕ) → input ≡ b ∷ bs → nat_lt b 128 ≡ true) → 0 < len
 pos_len [] len pos e lows = absurd (omega (arith, pos))
-pos_len (b ∷ bs) zero pos e lows = absurd (nil_cons b (data_front bs) (e ∙ ap (λ d. if d then b ∷ data_front bs else []) (lows b bs refl)))
+pos_len (b ∷ bs) zero pos e lows = absurd (nil_cons b (data_front bs) (e ∙ ap (λ d. if d then b ∷ data_front bs else [])
+    (lows b bs refl)))
   where
     nil_cons : (x : ℕ) (xs : List ℕ) → [] ≡ x ∷ xs → ⊥
     nil_cons x xs e = cc
@@ -183,7 +226,9 @@ length-drop zero xs le = omega arith
 length-drop (suc n) [] le = absurd (omega arith)
 length-drop (suc n) (x ∷ xs) le = omega (arith, length-drop n xs (omega arith))
 
-pub run_none : (r : Option Seen) (input left final : List ℕ) (len used : ℕ) → IfNone r (left ≡ []) → 0 < length input → len ≤ length input → take len input ≡ data_front input → ((b : ℕ) (bs : List ℕ) → input ≡ b ∷ bs → nat_lt b 128 ≡ true) → used ≡ len - length left → final ≡ drop used input →
+pub run_none : (r : Option Seen) (input left final : List ℕ) (len used : ℕ) → IfNone r (left ≡ []) → 0 < length input →
+    len ≤ length input → take len input ≡ data_front input → ((b : ℕ) (bs : List ℕ) → input ≡ b ∷ bs →
+    nat_lt b 128 ≡ true) → used ≡ len - length left → final ≡ drop used input →
     IfNone r (length final < length input)
 run_none (Some s) input left final len used n pos short e lows u fin = tt
 run_none None input left final len used n pos short e lows u fin =
@@ -209,7 +254,9 @@ front-none (x ∷ xs) e = by (nat_lt x 128) refl
     by true is = absurd (cons_nil x (data_front xs) (sym (ap (λ d. if d then x ∷ data_front xs else []) is) ∙ e))
     by false is = is
 
-pub run_longest : (r : Option Seen) (input handed left final taken : List ℕ) (len used : ℕ) → IfSome r (IsLongest left) → handed ≡ taken ++ left → handed ≡ take len input → take len input ≡ data_front input → data_front (drop len input) ≡ [] → used ≡ len - length left → final ≡ drop used input → IfSome r (IsLongest final)
+pub run_longest : (r : Option Seen) (input handed left final taken : List ℕ) (len used : ℕ) →
+    IfSome r (IsLongest left) → handed ≡ taken ++ left → handed ≡ take len input → take len input ≡ data_front input →
+    data_front (drop len input) ≡ [] → used ≡ len - length left → final ≡ drop used input → IfSome r (IsLongest final)
 run_longest None input handed left final taken len used n f piece e last u fin = tt
 run_longest (Some (seen.Note x)) input handed left final taken len used n f piece e last u fin = tt
 run_longest (Some (seen.Ev (ev.Short x))) input handed left final taken len used n f piece e last u fin = tt
@@ -232,15 +279,20 @@ owed_most InSysex = omega arith
 stamp-advanced : (mid : Content) (used : ℕ) → (content_owed (advanced mid used) ≤ content_owed mid)
 stamp-advanced mid used = by (used == 0)
   where
-    by : (z : Bool) → content_owed (if z then mid else record mid { offset = mid.offset + used; head = head.Inside }) ≤ content_owed mid
+    by : (z : Bool) → content_owed (if z then mid else record mid { offset = mid.offset + used; head = head.Inside }) ≤
+        content_owed mid
     by true = omega arith
     by false = omega arith
 
 pub run_falls : (r : Option Seen) (was mid now : Content) (input handed left final taken : List ℕ) (len used : ℕ) →
-    OnSome r (2 * length left + owed mid.din < 2 * length handed + owed was.din) → IfNone r (left ≡ []) → mid ≡ record was { din = mid.din } → now ≡ advanced mid used → handed ≡ taken ++ left →
-    0 < length input → len ≤ length input → take len input ≡ data_front input → handed ≡ take len input → ((b : ℕ) (bs : List ℕ) → input ≡ b ∷ bs → nat_lt b 128 ≡ true) → used ≡ len - length left → final ≡ drop used input →
+    OnSome r (2 * length left + owed mid.din < 2 * length handed + owed was.din) → IfNone r (left ≡ []) →
+    mid ≡ record was { din = mid.din } → now ≡ advanced mid used → handed ≡ taken ++ left →
+    0 < length input → len ≤ length input → take len input ≡ data_front input → handed ≡ take len input →
+    ((b : ℕ) (bs : List ℕ) → input ≡ b ∷ bs → nat_lt b 128 ≡ true) → used ≡ len - length left →
+    final ≡ drop used input →
     2 * length final + content_owed now < 2 * length input + content_owed was
-run_falls r was mid now input handed left final taken len used progress none is moves cut pos short e piece lows u fin = by r progress none
+run_falls r was mid now input handed left final taken len used progress none is moves cut pos short e piece lows u fin =
+    by r progress none
   where
     size : length handed ≡ len
     size = ap length piece ∙ length-take len input short
@@ -253,14 +305,16 @@ run_falls r was mid now input handed left final taken len used progress none is 
 
     now_owed : content_owed now ≤ owed mid.din + stamp_owed was.head
     now_owed =
-        let a : content_owed now ≤ content_owed mid = subst (λ (c : Content). content_owed c ≤ content_owed mid) (sym moves) (stamp-advanced mid used) in
+        let a : content_owed now ≤ content_owed mid = subst (λ (c : Content). content_owed c ≤ content_owed mid)
+        (sym moves) (stamp-advanced mid used) in
         let b : stamp_owed mid.head ≡ stamp_owed was.head = ap (λ (c : Content). stamp_owed c.head) is in
         omega (arith, a, b)
 
     some : 0 < len
     some = pos_len input len pos e lows
 
-    by : (r : Option Seen) → OnSome r (2 * length left + owed mid.din < 2 * length handed + owed was.din) → IfNone r (left ≡ []) → 2 * length final + content_owed now < 2 * length input + content_owed was
+    by : (r : Option Seen) → OnSome r (2 * length left + owed mid.din < 2 * length handed + owed was.din) →
+        IfNone r (left ≡ []) → 2 * length final + content_owed now < 2 * length input + content_owed was
     by (Some x) p n = omega (arith, p, size, parts, ends, now_owed, u)
     by None p n = omega (arith, ap length n, size, parts, ends, now_owed, u, some, owed_most mid.din.progress)
 
@@ -272,5 +326,8 @@ low-status (x ∷ xs) l s = no-both x l.0 s
     no-both : (b : ℕ) → nat_lt b 128 ≡ true → is_status b ≡ true → ⊥
     no-both b low status = grind (arith, nat_tests)
 
-pub run_before : {R G : Type 0} (input handed left taken : List ℕ) (len : ℕ) (ts : List Told) → handed ≡ taken ++ left → handed ≡ take len input → take len input ≡ data_front input → (breaks ts ≡ true → StatusNext left × R) → breaks ts ≡ true → G
-run_before input handed left taken len ts f piece e h b = absurd (low-status left (low-back taken left (subst Low (sym (piece ∙ e) ∙ f) (low-data input))) (h b).0)
+pub run_before : {R G : Type 0} (input handed left taken : List ℕ) (len : ℕ) (ts : List Told) → handed ≡ taken ++ left →
+    handed ≡ take len input → take len input ≡ data_front input → (breaks ts ≡ true → StatusNext left × R) →
+    breaks ts ≡ true → G
+run_before input handed left taken len ts f piece e h b = absurd
+    (low-status left (low-back taken left (subst Low (sym (piece ∙ e) ∙ f) (low-data input))) (h b).0)

@@ -10,8 +10,10 @@ use Rattle.mb_ble.specs.Stands.{BleStands, BleTells, BleAllTold, at_moment, seen
 use Rattle.mb_ble.specs.declared.position.Position.{Position}
 use Rattle.mb_ble.specs.declared.step.BleStep.{BleStep}
 
-pub tells-step_of : (inside was now : Position) (input left : List ℕ) (ts : List Told) (moment : ℕ) (answer : List Part) →
-    inside ≡ was → BleTells inside now input left (at_moment now ts) → moment ≡ ble_moment now → answer ≡ map (part_at moment) ts →
+pub tells-step_of : (inside was now : Position) (input left : List ℕ) (ts : List Told) (moment : ℕ)
+    (answer : List Part) →
+    inside ≡ was → BleTells inside now input left (at_moment now ts) → moment ≡ ble_moment now →
+    answer ≡ map (part_at moment) ts →
     Tells part_of ble_known (BleStands was) (BleStands now) input left answer
 tells-step_of inside was now input left ts moment answer view tells at is =
     let timed : at_moment now ts ≡ answer = sym (is ∙ ap (λ m. map (part_at m) ts) at) in

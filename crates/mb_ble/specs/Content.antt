@@ -8,7 +8,8 @@
 --   Hands ..                the byte stream's reader was put to an offset and read a piece
 --   Took ..                 a byte was taken
 --   EndedBy ..              the packet's end was taken
-use Rattle.std.specs.Prelude.{◌≡◌, ℕ, ◌+◌, ◌%◌, Bool, true, false, ◌||◌, ◌⊎◌, nat_lt, nat_le, ◌==◌, if◌then◌else◌, List, [], ◌∷◌, ◌++◌, length, Option, Some, None}
+use Rattle.std.specs.Prelude.{◌≡◌, ℕ, ◌+◌, ◌%◌, Bool, true, false, ◌||◌, ◌⊎◌, nat_lt, nat_le, ◌==◌, if◌then◌else◌, List}
+use Rattle.std.specs.Prelude.{[], ◌∷◌, ◌++◌, length, Option, Some, None}
 use Rattle.mb_clock.specs.Clock.{begun, stamped}
 use Rattle.mb_din.specs.Reader.{Stands, DinGoes}
 use Rattle.mb_din.specs.State.{State}

@@ -7,7 +7,8 @@
 --   ble_answer, seen_of          what a step tells, with its moment and without
 --   BrokenNext now left          what breaks a message stands next: a status in the input, or a packet's end
 --   Holds, Read, Reads, Counts   the same of the content of a packet, whatever its room and whatever follows
-use Rattle.std.specs.Prelude.{◌≡◌, ℕ, ◌+◌, ◌-◌, ◌<◌, ◌≤◌, ◌⊎◌, Bool, true, false, if◌then◌else◌, List, [], ◌∷◌, ◌++◌, map, length, Option, Some, None}
+use Rattle.std.specs.Prelude.{◌≡◌, ℕ, ◌+◌, ◌-◌, ◌<◌, ◌≤◌, ◌⊎◌, Bool, true, false, if◌then◌else◌, List, [], ◌∷◌, ◌++◌}
+use Rattle.std.specs.Prelude.{map, length, Option, Some, None}
 use Rattle.mb_din.specs.Reader.{Stands}
 use Rattle.mb_message.specs.declared.event.Seen.{Seen}
 use Rattle.mb_din.specs.State.{State}
@@ -21,7 +22,8 @@ use Rattle.mb_stream.specs.Reading.{Part, part_of, part_at, so_far}
 use Rattle.mb_stream.specs.Told.{Told, Known, may_run}
 use Rattle.mb_message.specs.declared.note.NoteKind.TheVariants.{LoneStamp}
 use Rattle.mb_frames.specs.Counting.{rest_parts}
-use Rattle.mb_ble.specs.Packets.{Token, Begins, Skipped, Stamp, Ends, byte_token, tokens, clock, running, is_full, payload, all_tokens}
+use Rattle.mb_ble.specs.Packets.{Token, Begins, Skipped, Stamp, Ends, byte_token, tokens, clock, running, is_full}
+use Rattle.mb_ble.specs.Packets.{payload, all_tokens}
 use Rattle.mb_ble.specs.Reading.{lone, noted, ble_known, onto, whole_from, ble_whole}
 use Rattle.mb_ble.specs.News.{news_from}
 use Rattle.mb_ble.specs.State.{Calm, is_between, ble_offset, ble_moment}
@@ -53,13 +55,13 @@ is_heady (head.Stamped at) = false
 is_heady head.Spent = false
 
 -- a token behind which a byte is what it is here
-abbrev pub behind : Head → Token
-behind head.Between = Ends 0
-behind head.Header = Begins 0 0
-behind head.Skip = Skipped
-behind head.Inside = Ends 0
-behind (head.Stamped at) = Stamp at 0
-behind head.Spent = Stamp 0 0
+abbrev pub token_behind : Head → Token
+token_behind head.Between = Ends 0
+token_behind head.Header = Begins 0 0
+token_behind head.Skip = Skipped
+token_behind head.Inside = Ends 0
+token_behind (head.Stamped at) = Stamp at 0
+token_behind head.Spent = Stamp 0 0
 
 abbrev pub last : List Token → Token
 last [] = Ends 0
@@ -96,7 +98,7 @@ pub record Holds (now : Content) (before : List Token) (told : List Known) : Typ
   pub clock_is : now.clock ≡ clock before
   pub running_is : now.running ≡ running before
   pub runs : (s : ℕ) → running before ≡ Some s → (is_channel s ≡ true) × (is_full (last_of (payload before)) ≡ false)
-  pub kind : (at b : ℕ) → byte_token at (last before) b ≡ byte_token at (behind now.head) b
+  pub kind : (at b : ℕ) → byte_token at (last before) b ≡ byte_token at (token_behind now.head) b
   pub stamp : List Known
   pub early : List Known
   pub told_is : told ≡ stamp ++ early

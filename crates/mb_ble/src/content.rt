@@ -1,6 +1,8 @@
 //! The content of a packet, byte by byte: its header, stamps, and what the byte stream in it tells.
 
-ghost use Rattle.std.specs.Prelude.{◌≡◌, ℕ, List, [], ◌∷◌, ◌++◌, ◌+◌, ◌*◌, ◌%◌, ◌^◌, ◌<◌, ◌≤◌, ◌⊎◌, Option, Some, None, false, true, length, IfNone, IfSome, OnSome, IsSome, ◌↔◌, nat_lt, if◌then◌else◌, take, drop};
+ghost use Rattle.std.specs.Prelude.{◌≡◌, ℕ, List, [], ◌∷◌, ◌++◌, ◌+◌, ◌*◌, ◌%◌, ◌^◌, ◌<◌, ◌≤◌, ◌⊎◌, Option, Some, None};
+ghost use Rattle.std.specs.Prelude.{false, true, length, IfNone, IfSome, OnSome, IsSome, ◌↔◌, nat_lt, if◌then◌else◌};
+ghost use Rattle.std.specs.Prelude.{take, drop};
 ghost use Rattle.mb_clock.specs.Clock.{clock_of};
 ghost use Rattle.mb_din.specs.Reader.{Stands, RunNext};
 ghost use Rattle.mb_din.specs.State.{fresh, free_now, open_now, owed, Rests};
@@ -11,8 +13,11 @@ ghost use Rattle.mb_stream.specs.Payload.{Entry};
 ghost use Rattle.mb_stream.specs.Reading.{so_far, told_signs};
 ghost use Rattle.mb_stream.specs.Told.{Notes, Known, at_end};
 ghost use Rattle.mb_message.specs.declared.note.NoteKind.TheVariants.{LoneStamp as LoneStampKind};
-ghost use Rattle.mb_ble.specs.declared.content.Head.TheVariants.{Between as AtBetween, Header as AtHeader, Skip as AtSkip, Inside as AtInside, Stamped as AtStamped, Spent as AtSpent};
-ghost use Rattle.mb_ble.specs.Content.{empty_told, headed, headed_told, stamped_at, advanced, running_then, is_common, Hands, Took, EndedBy};
+ghost use Rattle.mb_ble.specs.declared.content.Head.TheVariants.{Between as AtBetween, Header as AtHeader};
+ghost use Rattle.mb_ble.specs.declared.content.Head.TheVariants.{Skip as AtSkip, Inside as AtInside};
+ghost use Rattle.mb_ble.specs.declared.content.Head.TheVariants.{Stamped as AtStamped, Spent as AtSpent};
+ghost use Rattle.mb_ble.specs.Content.{empty_told, headed, headed_told, stamped_at, advanced, running_then, is_common};
+ghost use Rattle.mb_ble.specs.Content.{Hands, Took, EndedBy};
 ghost use Rattle.mb_ble.specs.Stands.{Reads, Counts, MayRun, HasOpen, is_heady};
 ghost use Rattle.mb_stream.specs.ReaderLaw.{IsLongest, StatusNext, breaks, begins_run, answer};
 ghost use Rattle.mb_ble.specs.State.{Calm, is_between, content_owed};

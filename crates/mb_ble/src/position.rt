@@ -1,6 +1,7 @@
 //! Where a recording stands that is read in pieces.
 
-ghost use Rattle.std.specs.Prelude.{◌≡◌, ℕ, List, [], ◌+◌, ◌*◌, ◌^◌, ◌<◌, ◌≤◌, None, false, true, length, take, IfNone, IfSome, OnSome, IsSome, ◌↔◌};
+ghost use Rattle.std.specs.Prelude.{◌≡◌, ℕ, List, [], ◌+◌, ◌*◌, ◌^◌, ◌<◌, ◌≤◌, None, false, true, length, take, IfNone};
+ghost use Rattle.std.specs.Prelude.{IfSome, OnSome, IsSome, ◌↔◌};
 ghost use Rattle.mb_din.specs.State.{fresh, free_now, Rests};
 ghost use Rattle.mb_frames.specs.Reading.{Place, Between, Within, room_of, is_at_end};
 ghost use Rattle.mb_stream.specs.Reading.{told_signs};

@@ -1,6 +1,7 @@
 //! The reader of a recording of packets.
 
-ghost use Rattle.std.specs.Prelude.{◌≡◌, ℕ, List, [], ◌+◌, ◌*◌, ◌^◌, ◌<◌, ◌≤◌, false, true, not, length, take, IfNone, IfSome, OnSome, IsSome, ◌↔◌};
+ghost use Rattle.std.specs.Prelude.{◌≡◌, ℕ, List, [], ◌+◌, ◌*◌, ◌^◌, ◌<◌, ◌≤◌, false, true, not, length, take, IfNone};
+ghost use Rattle.std.specs.Prelude.{IfSome, OnSome, IsSome, ◌↔◌};
 ghost use Rattle.mb_din.specs.State.{fresh, free_now, Rests};
 ghost use Rattle.mb_frames.specs.Reading.{is_partial};
 ghost use Rattle.mb_stream.specs.Reading.{part_of, told_signs};

@@ -16,7 +16,7 @@ use Rattle.mb_message.specs.Front.{IsFront}
 use Rattle.mb_stream.specs.Reading.{told_signs}
 use Rattle.mb_carrier.specs.Carrier.{known, puts_known, puts_so_far, live}
 use Rattle.mb_carrier.specs.Hop.{Puts, HopStands, HaveMoment, MayCome, seen_signs}
-use Rattle.mb_carrier.specs.Fill.{PutSome, Flows, Through, AllAt, More}
+use Rattle.mb_carrier.specs.Fill.{PutSome, Flows, UsedUp, AllAt, More}
 use Rattle.mb_carrier.specs.declared.spec.Spec.{Spec}
 use Rattle.mb_carrier.proofs.PutLemmas.{puts_known-append, puts_known-at, puts_at-append, puts-all, moments-left}
 use Rattle.mb_carrier.proofs.ReadingLemmas.{Goes, goes-spec, Reads, suited-so_far, puts-front, told_signs-seen}
@@ -151,7 +151,8 @@ pub flows-put : (s t other : Spec) (moments : ℕ → ℕ) (moment : ℕ) (apart
     PutSome (live other) writer writer_now m owes left held kept →
     FlowsMore s t moments moment apart at reader writer bytes rest (puts_at m owes) puts base held →
     FlowsMore s t moments moment apart at reader writer_now bytes rest (puts_at m (map ByteSign left)) puts base kept
-flows-put s t other moments moment apart at m reader writer writer_now bytes rest owes left puts base held kept same stays put more =
+flows-put s t other moments moment apart at m reader writer writer_now bytes rest owes left puts base held kept same
+    stays put more =
     let f = more.2 in
     let p = subst (λ (u : Spec). PutSome (live u) writer writer_now m owes left held kept) same put in
     let q = p.goes (puts ++ more.0) base f.writes f.live_is in
@@ -266,7 +267,8 @@ pub flows-step : (s other t other_t : Spec) (moments : ℕ → ℕ) (moment : �
     FlowsMore s t moments moment apart at was writer bytes rest [] puts base held →
     FlowsMore s t moments moment apart at now writer_now bytes left
     (puts_at (time moment) (map ByteSign run)) puts base kept
-flows-step s other t other_t moments moment apart at m was now time writer writer_now bytes rest left run puts base held kept x same same_t is stays goes put more =
+flows-step s other t other_t moments moment apart at m was now time writer writer_now bytes rest left run puts base held
+    kept x same same_t is stays goes put more =
     flows-owes s t moments moment apart at now writer_now bytes left (puts_at m (map ByteSign run))
     (puts_at (time moment) (map ByteSign run)) puts base kept (ap (λ k. puts_at k (map ByteSign run)) is)
     (flows-put s t other_t moments moment apart at m now writer writer_now bytes left
@@ -306,8 +308,9 @@ pub flows-done : (s other t : Spec) (moments : ℕ → ℕ) (moment : ℕ) (apar
     ((b : List ℕ) (k : List Known) → was b k → IsFront k (known other (b ++ rest)) → k ≡ known other (b ++ rest)) →
     left ≡ [] →
     FlowsMore s t moments moment apart at was writer bytes rest [] puts base held →
-    More apart at puts (λ ps. Through s t moments now writer bytes ps base held)
-flows-done s other t moments moment apart at was now time writer bytes rest left puts base held same goes all_told none more =
+    More apart at puts (λ ps. UsedUp s t moments now writer bytes ps base held)
+flows-done s other t moments moment apart at was now time writer bytes rest left puts base held same goes all_told none
+    more =
     let f = more.2 in
     let ps : List Put = puts ++ more.0 in
     let front = flows-front s other t moments moment was writer bytes rest [] ps base held same f in
@@ -355,11 +358,14 @@ pub fill-left : (s t other : Spec) (moments : ℕ → ℕ) (moment : ℕ) (apart
     ((ps : List Put) → Flows s other moments moment reader writer bytes rest [] ps base held →
     FlowsMore s other moments moment apart m reader_now writer_now bytes left owes ps base kept) →
     FlowsMore s t moments moment apart at reader_now writer_now bytes left owes puts base kept
-fill-left s t other moments moment apart at m reader reader_now writer writer_now bytes rest left owes puts base held kept is same f goes =
+fill-left s t other moments moment apart at m reader reader_now writer writer_now bytes rest left owes puts base held
+    kept is same f goes =
     let ps : List Put = puts ++ f.0 in
-    let a = subst (λ (k : ℕ). FlowsMore s other moments moment apart k reader_now writer_now bytes left owes ps base kept) is
+    let a = subst (λ (k : ℕ). FlowsMore s other moments moment apart k reader_now writer_now bytes left owes ps base
+    kept) is
     (goes ps (flows-spec s t other moments moment reader writer bytes rest [] ps base held same f.2)) in
-    let b = subst (λ (u : Spec). FlowsMore s u moments moment apart at reader_now writer_now bytes left owes ps base kept) same a in (
+    let b = subst (λ (u : Spec). FlowsMore s u moments moment apart at reader_now writer_now bytes left owes ps base
+    kept) same a in (
       f.0 ++ b.0,
       all_at-both apart at f.0 b.0 f.1 b.1,
       subst (λ (qs : List Put). Flows s t moments moment reader_now writer_now bytes left owes qs base kept)
@@ -371,18 +377,19 @@ pub fill-done : (s t other : Spec) (moments : ℕ → ℕ) (moment : ℕ) (apart
     (puts : List Put) (base held kept : List ℕ) →
     m ≡ at → other ≡ t → FlowsMore s t moments moment apart at reader writer bytes rest [] puts base held →
     ((ps : List Put) → Flows s other moments moment reader writer bytes rest [] ps base held →
-    More apart m ps (λ qs. Through s other moments reader_now writer_now bytes qs base kept)) →
-    More apart at puts (λ qs. Through s t moments reader_now writer_now bytes qs base kept)
-fill-done s t other moments moment apart at m reader reader_now writer writer_now bytes rest puts base held kept is same f goes =
+    More apart m ps (λ qs. UsedUp s other moments reader_now writer_now bytes qs base kept)) →
+    More apart at puts (λ qs. UsedUp s t moments reader_now writer_now bytes qs base kept)
+fill-done s t other moments moment apart at m reader reader_now writer writer_now bytes rest puts base held kept is same
+    f goes =
     let ps : List Put = puts ++ f.0 in
     let a = subst (λ (k : ℕ). More apart k ps
-    (λ qs. Through s other moments reader_now writer_now bytes qs base kept)) is
+    (λ qs. UsedUp s other moments reader_now writer_now bytes qs base kept)) is
     (goes ps (flows-spec s t other moments moment reader writer bytes rest [] ps base held same f.2)) in
     let b = subst (λ (u : Spec). More apart at ps
-    (λ qs. Through s u moments reader_now writer_now bytes qs base kept)) same a in (
+    (λ qs. UsedUp s u moments reader_now writer_now bytes qs base kept)) same a in (
       f.0 ++ b.0,
       all_at-both apart at f.0 b.0 f.1 b.1,
-      subst (λ (qs : List Put). Through s t moments reader_now writer_now bytes qs base kept)
+      subst (λ (qs : List Put). UsedUp s t moments reader_now writer_now bytes qs base kept)
           (append_assoc puts f.0 b.0) b.2,
     )
 
@@ -412,4 +419,14 @@ pub flows-handed : (s t : Spec) (moments : ℕ → ℕ) (moment : ℕ) (reader :
     Flows s t moments moment reader writer bytes rest owes puts base held →
     Flows s t moments moment reader writer bytes rest owes puts (base ++ held) []
 flows-handed s t moments moment reader writer bytes rest owes puts base held f =
-    record { taken = f.taken; cut = f.cut; told = f.told; reads = f.reads; front = f.front; told_are = f.told_are; writes = f.writes; live_is = f.live_is ∙ sym (append-nil (base ++ held)); have = f.have }
+    record {
+      taken = f.taken;
+      cut = f.cut;
+      told = f.told;
+      reads = f.reads;
+      front = f.front;
+      told_are = f.told_are;
+      writes = f.writes;
+      live_is = f.live_is ∙ sym (append-nil (base ++ held));
+      have = f.have;
+    }

@@ -8,7 +8,7 @@ use Rattle.mb_stream.specs.Reading.{Part, Remark, part_of, part_at, note_in}
 use Rattle.mb_stream.specs.Reading as stream
 use Rattle.mb_carrier.specs.Carrier.{known, payload_of, end_told, end_moment, reading_of, notes_of}
 use Rattle.mb_carrier.specs.Conversion.{none_set}
-use Rattle.mb_carrier.specs.Listing.{told_of, has_notes}
+use Rattle.mb_carrier.specs.ListSteps.{told_of, has_notes}
 use Rattle.mb_carrier.specs.declared.spec.Spec.{Spec}
 use Rattle.mb_carrier.specs.declared.spec.Spec.TheVariants.{Din, Usb, Fire, Ble}
 

@@ -6,7 +6,7 @@
 --                    what was written
 --                    of them stands in what was handed on before, `base`, and in what the buffer holds; the rest has
 -- one moment
---   Through ..       all of the bytes are read and written
+--   UsedUp ..       all of the bytes are read and written
 --   OnItsWay ..      one or the other, by what is left of the piece: nothing, where all of it is read and written;
 --                    `at` says at
 --                    which moment the reader's last event stands, where one was set
@@ -43,7 +43,7 @@ pub record Flows (s t : Spec) (moments : ℕ → ℕ) (moment : ℕ) (reader : L
   pub live_is : live t puts ≡ base ++ held
   pub have : HaveMoment moments (length taken) (length rest) moment
 
-pub record Through (s t : Spec) (moments : ℕ → ℕ) (reader : List ℕ → List Known → Type 0) (writer : List Put → Type 0)
+pub record UsedUp (s t : Spec) (moments : ℕ → ℕ) (reader : List ℕ → List Known → Type 0) (writer : List Put → Type 0)
     (bytes : List ℕ) (puts : List Put) (base held : List ℕ) : Type 0 where
   pub stands : HopStands s moments reader writer bytes
   pub puts_are : puts ≡ puts_so_far s moments bytes
@@ -54,7 +54,7 @@ abbrev pub OnItsWay : (s t : Spec) (moments : ℕ → ℕ) (at : ℕ → ℕ) (r
 OnItsWay s t moments at reader writer bytes (Some p) puts base held =
     Flows s t moments p.moment reader writer bytes p.rest.now
     (puts_at (at p.moment) (signs_of_event p.ev)) puts base held
-OnItsWay s t moments at reader writer bytes None puts base held = Through s t moments reader writer bytes puts base held
+OnItsWay s t moments at reader writer bytes None puts base held = UsedUp s t moments reader writer bytes puts base held
 
 abbrev pub AllAt : (apart : Bool) (at : ℕ) (done : List Put) → Type 0
 AllAt apart at done = apart ≡ true → (signs : List Sign) × (done ≡ puts_at at signs)

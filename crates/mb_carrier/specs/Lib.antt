@@ -8,7 +8,7 @@ pub mod Hop
 pub mod Laws
 pub mod Line
 pub mod Lines
-pub mod Listed
+pub mod ListSteps
 pub mod Listing
 pub mod Live
 pub mod Port

@@ -16,8 +16,8 @@ use Rattle.mb_ble.specs.Written.{ble_written}
 use Rattle.mb_carrier.specs.declared.spec.Spec.{Spec}
 use Rattle.mb_carrier.specs.declared.spec.Spec.TheVariants.{Din, Usb, Fire, Ble}
 
--- What is missing is the last marks, as many as are written in one packet of at most so many bytes, or in none (BLE-MIDI
--- 1.0, "Packet Encoding"). The marks before them are whole.
+-- What is missing is the last marks, as many as are written in one packet of at most so many bytes, or in none
+-- (BLE-MIDI 1.0, "Packet Encoding"). The marks before them are whole.
 pub record LeavesOut (size : ℕ) (full less : Denotation) : Type 0 where
   pub shown : List Put
   pub held : List Put

@@ -8,7 +8,7 @@ ghost use Rattle.mb_message.specs.Signs.{ByteSign, suits_event, signs_of_event, 
 ghost use Rattle.mb_stream.specs.Puts.{Put, puts_at};
 ghost use Rattle.mb_carrier.specs.Carrier.{live, hop_room_of, hop_longest_of};
 ghost use Rattle.mb_carrier.specs.Hop.{seen_signs, MayCome};
-ghost use Rattle.mb_carrier.specs.Fill.{PutSome, Flows, Through, OnItsWay, More, unread, work, HasMoment};
+ghost use Rattle.mb_carrier.specs.Fill.{PutSome, Flows, UsedUp, OnItsWay, More, unread, work, HasMoment};
 
 use crate::{EventReader, EventWriter, Piece};
 use mb_message::{Buf, Ev, Seen};
@@ -166,7 +166,7 @@ fn read_on<'a, R: EventReader, W: EventWriter>(
     ensures done { IfNone result ((moments : ℕ → ℕ) (bytes : List ℕ) (puts : List Put) (base : List ℕ) →
         Flows (R.spec reader.old) (W.spec writer.old) moments moment (R.stands reader.old) (W.stands writer.old)
         bytes rest.old.now [] puts base held.old.items →
-        More apart at puts (λ ps. Through (R.spec reader.old) (W.spec writer.old) moments (R.stands reader.new)
+        More apart at puts (λ ps. UsedUp (R.spec reader.old) (W.spec writer.old) moments (R.stands reader.new)
         (W.stands writer.new)
         bytes ps base held.new.items)) }
     ensures short { IfSome result (λ ev. length (signs_of_event ev) < 2 ^ 64) }

@@ -384,7 +384,8 @@ pub end-ended : (links : List Link) (h h_now : Hop) (hs hs_now : List Hop) (mid 
     RowFed links (RowStands hs) mid at last took_first → RowFed links mid behind at rest took_second →
     RowEnded links behind (RowDone hs_now) took_third →
     RowEnded (link_of h ∷ links) (RowOf h hs) (RowDone (h_now ∷ hs_now)) took
-end-ended links h h_now hs hs_now mid behind at last rest took_first took_second took_third took all_took reads_same writes_same count closes a b e =
+end-ended links h h_now hs hs_now mid behind at last rest took_first took_second took_third took all_took reads_same
+    writes_same count closes a b e =
     let l : Link = link_of h in
     let same : link_of h_now ≡ l = λ i. record { reads = reads_same i; writes = writes_same i } in
     record {

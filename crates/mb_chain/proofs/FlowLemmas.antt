@@ -65,7 +65,11 @@ way-handed : (s t : Spec) (moments at : ℕ → ℕ) (reader : Reader) (writer :
 way-handed s t moments at reader writer bytes (Some p) puts base held f =
     flows-handed s t moments p.moment reader writer bytes p.rest.now
     (puts_at (at p.moment) (signs_of_event p.ev)) puts base held f
-way-handed s t moments at reader writer bytes None puts base held f = record { stands = f.stands; puts_are = f.puts_are; live_is = f.live_is ∙ sym (append-nil (base ++ held)) }
+way-handed s t moments at reader writer bytes None puts base held f = record {
+  stands = f.stands;
+  puts_are = f.puts_are;
+  live_is = f.live_is ∙ sym (append-nil (base ++ held));
+}
 
 -- what a hop in the midst of its input has written is written of all of it
 way-front : (s t : Spec) (moments at : ℕ → ℕ) (reader : Reader) (writer : Writer) (bytes : List ℕ)
@@ -96,8 +100,10 @@ way-one : (links : List Link) (s t : Spec) (moments at at_now : ℕ → ℕ) (re
     IsApart links apart → OnItsWay s t moments at reader writer bytes left puts base [] →
     More apart m puts (λ ps. OnItsWay s t moments at_now reader_now writer_now bytes left_now ps base held) →
     HaveOne links (moments_on (record { reads = s; writes = t }) moments bytes) (length base) (length held) m
-way-one [] s t moments at at_now reader reader_now writer writer_now apart m bytes left left_now puts base held is_apart was now = tt
-way-one (l ∷ ls) s t moments at at_now reader reader_now writer writer_now apart m bytes left left_now puts base held is_apart was now =
+way-one [] s t moments at at_now reader reader_now writer writer_now apart m bytes left left_now puts base held is_apart
+    was now = tt
+way-one (l ∷ ls) s t moments at at_now reader reader_now writer writer_now apart m bytes left left_now puts base held
+    is_apart was now =
     let marks = now.1 is_apart in
     let w = subst (λ (d : List Put). OnItsWay s t moments at_now reader_now writer_now bytes left_now
     (puts ++ d) base held) marks.1 now.2 in
@@ -110,8 +116,7 @@ way-one (l ∷ ls) s t moments at at_now reader reader_now writer writer_now apa
     (way-live s t moments at_now reader_now writer_now bytes left_now ps base held w))
 
 -- `before` was handed to the hop before, `piece` is; it handed on `handed` of it, and the taker took `given`. The
--- moments of what is
--- handed on are those that the whole of it will have.
+-- moments of what is handed on are those that the whole of it will have.
 pub record Driven (links : List Link) (l : Link) (moments at : ℕ → ℕ) (reader : Reader) (writer : Writer)
     (behind : (ℕ → ℕ) → List ℕ → Type 0) (wrote offset : ℕ) (piece : List ℕ) (left : Option Piece)
     (handed given before : List ℕ) : Type 0 where
@@ -194,7 +199,8 @@ pub driving-step : (links : List Link) (h : Hop) (hs : List Hop) (at at_now : �
     Driving links h hs at reader writer behind wrote offset moment piece left took_first →
     RowFed links behind behind_now m held took_second →
     Driving links h hs at_now reader_now writer_now behind_now wrote_now offset_now moment piece left_now took
-driving-step links h hs at at_now reader reader_now writer writer_now behind behind_now wrote wrote_now offset offset_now moment apart m piece left left_now held took_first took_second took both apart_is goes more same d fed =
+driving-step links h hs at at_now reader reader_now writer writer_now behind behind_now wrote wrote_now offset
+    offset_now moment apart m piece left left_now held took_first took_second took both apart_is goes more same d fed =
     record {
       handed = d.handed ++ held;
       given = d.given ++ fed.given;
@@ -237,7 +243,8 @@ pub driving-halted : (links : List Link) (h : Hop) (hs : List Hop) (at at_now : 
     Driving links h hs at reader writer behind wrote offset moment piece left took_first →
     RowHalted links behind m held took_second →
     RowHalted (link_of h ∷ links) (RowOf h hs) moment piece took
-driving-halted links h hs at at_now reader reader_now writer writer_now behind wrote offset moment apart m piece left left_now held took_first took_second took both apart_is goes d halted =
+driving-halted links h hs at at_now reader reader_now writer writer_now behind wrote offset moment apart m piece left
+    left_now held took_first took_second took both apart_is goes d halted =
     record {
       given = d.given ++ halted.given;
       took_it = both d.given halted.given d.took_it halted.took_it;
@@ -276,7 +283,8 @@ pub driving-may : (links : List Link) (h : Hop) (hs : List Hop) (at at_now : ℕ
     (writer_spec h.writer) at at_now reader reader_now writer writer_now apart m left left_now held →
     Driving links h hs at reader writer behind wrote offset moment piece left took →
     MayFlow (link_of h ∷ links) (RowOf h hs) moment piece → MayFlow links behind m held
-driving-may links h hs at at_now reader reader_now writer writer_now behind wrote offset moment apart m piece left left_now held took apart_is goes d f =
+driving-may links h hs at at_now reader reader_now writer writer_now behind wrote offset moment apart m piece left
+    left_now held took apart_is goes d f =
     let l : Link = link_of h in
     let a = d.driven f.0 f.1 f.2 f.4 in
     let base : List ℕ = hands_on l f.0 f.1 ++ d.handed in
@@ -300,7 +308,8 @@ pub driving-small : (links : List Link) (h : Hop) (hs : List Hop) (at at_now : �
     (writer_spec h.writer) at at_now reader reader_now writer writer_now apart m left left_now held →
     Driving links h hs at reader writer behind wrote offset moment piece left took →
     MayFlow (link_of h ∷ links) (RowOf h hs) moment piece → wrote + length held ≤ 2 ^ 51 + 2 ^ 14
-driving-small links h hs at at_now reader reader_now writer writer_now behind wrote offset moment apart m piece left left_now held took goes d f =
+driving-small links h hs at at_now reader reader_now writer writer_now behind wrote offset moment apart m piece left
+    left_now held took goes d f =
     let l : Link = link_of h in
     let a = d.driven f.0 f.1 f.2 f.4 in
     let base : List ℕ = hands_on l f.0 f.1 ++ d.handed in
@@ -372,10 +381,13 @@ pub way-goes : (s other t other_t : Spec) (at at_now : ℕ → ℕ) (reader read
     More apart other_m puts
     (λ ps. OnItsWay other other_t moments at_now reader_now writer_now bytes left_now ps base held)) →
     GoesOn s t at at_now reader reader_now writer writer_now apart m left left_now held
-way-goes s other t other_t at at_now reader reader_now writer writer_now apart m other_m left left_now empty held same same_t none is goes =
+way-goes s other t other_t at at_now reader reader_now writer writer_now apart m other_m left left_now empty held same
+    same_t none is goes =
     subst (λ (k : ℕ). GoesOn s t at at_now reader reader_now writer writer_now apart k left left_now held) (sym is)
-    (subst (λ (u : Spec). GoesOn u t at at_now reader reader_now writer writer_now apart other_m left left_now held) same
-    (subst (λ (v : Spec). GoesOn other v at at_now reader reader_now writer writer_now apart other_m left left_now held) same_t
+    (subst (λ (u : Spec). GoesOn u t at at_now reader reader_now writer writer_now apart other_m left left_now held)
+    same
+    (subst (λ (v : Spec). GoesOn other v at at_now reader reader_now writer writer_now apart other_m left left_now held)
+    same_t
     (subst (λ (xs : List ℕ). (moments : ℕ → ℕ) (bytes : List ℕ) (puts : List Put) (base : List ℕ) →
     OnItsWay other other_t moments at reader writer bytes left puts base xs →
     More apart other_m puts
@@ -398,7 +410,8 @@ pub driving-way : (links : List Link) (h : Hop) (hs : List Hop) (other other_t :
     MayFlow (link_of h ∷ links) (RowOf h hs) moment piece →
     (moments : ℕ → ℕ) × (bytes : List ℕ) × (puts : List Put) × (base : List ℕ) ×
     OnItsWay other other_t moments at reader writer bytes left puts base empty
-driving-way links h hs other other_t at reader writer behind wrote offset moment piece left empty took same same_t none d f =
+driving-way links h hs other other_t at reader writer behind wrote offset moment piece left empty took same same_t none
+    d f =
     let a = d.driven f.0 f.1 f.2 f.4 in
     let base : List ℕ = hands_on (link_of h) f.0 f.1 ++ d.handed in (
       f.0,
@@ -453,7 +466,13 @@ pub none-fed : (links : List Link) (was now : List Hop) (moment : ℕ) (piece : 
 none-fed links was now moment piece took none empty t =
     subst (λ (ls : List Link). RowFed ls (RowStands was) (RowStands now) moment piece took) (sym none)
     (subst (λ (hs : List Hop). RowFed [] (RowStands was) (RowStands hs) moment piece took) (sym empty)
-    (record { given = piece; took_it = t; stands = λ moments bytes row have. tt; beyond = λ moments bytes row have. refl }))
+    (record {
+      given = piece;
+      took_it = t;
+      stands = λ moments bytes row have. tt;
+      beyond = λ moments bytes row have.
+          refl;
+    }))
 
 pub none-halted : (links : List Link) (was : (ℕ → ℕ) → List ℕ → Type 0) (moment : ℕ) (piece : List ℕ)
     (took : List ℕ → Type 0) → links ≡ [] → ((front : List ℕ) × IsPart front piece × took front) →

@@ -21,5 +21,6 @@ around = refl
 around_moments : moments ((record { high = 63; lows = 127 ∷ 0 ∷ [] }) ∷ []) ≡ 8191 ∷ 8192 ∷ []
 around_moments = refl
 
-header_back : moments ((record { high = 5; lows = 0 ∷ [] }) ∷ (record { high = 4; lows = 127 ∷ [] }) ∷ []) ≡ 640 ∷ 8831 ∷ []
+header_back : moments ((record { high = 5; lows = 0 ∷ [] }) ∷ (record { high = 4; lows = 127 ∷ [] }) ∷ []) ≡ 640 ∷
+    8831 ∷ []
 header_back = refl

@@ -1,6 +1,7 @@
 -- Each moment is the least that the one before and the stamp allow.
 use Rattle.std.proofs.Common.{◌≡◌, ℕ, ◌+◌, ◌*◌, ◌%◌, ◌<◌, ◌≤◌, List, [], ◌∷◌, ◌++◌, refl, sym, ◌∙◌, ap, subst, arith}
-use Rattle.mb_clock.specs.Stamps.{Packet, AreSevens, ArePackets, upper_six, lower_seven, last_or, last_bits, with_stamp}
+use Rattle.mb_clock.specs.Stamps.{StampedPacket, AreSevens, ArePackets, upper_six, lower_seven, last_or, last_bits}
+use Rattle.mb_clock.specs.Stamps.{with_stamp}
 use Rattle.mb_clock.specs.Stamps.{bits_behind, packet_bits, all_bits}
 use Rattle.mb_clock.specs.Moments.{IsNextMoment, AreMoments, AreNear, stamped_alone, next_moment, moments_from}
 
@@ -40,12 +41,12 @@ pub last_or-push : {X : Type 0} (before : X) (xs : List X) (x : X) → last_or b
 last_or-push before [] x = refl
 last_or-push before (y ∷ ys) x = last_or-push y ys x
 
-last_bits-below : (p : Packet) (low : ℕ) → low < 128 → last_bits (with_stamp p low) < 8192
+last_bits-below : (p : StampedPacket) (low : ℕ) → low < 128 → last_bits (with_stamp p low) < 8192
 last_bits-below p low small =
     let e : last_or 0 (p.lows ++ low ∷ []) ≡ low = last_or-push 0 p.lows low in
     omega (arith, e)
 
-bits_behind-below : (p : Packet) (lows : List ℕ) → AreSevens lows → AreBits (bits_behind p lows)
+bits_behind-below : (p : StampedPacket) (lows : List ℕ) → AreSevens lows → AreBits (bits_behind p lows)
 bits_behind-below p [] small = tt
 bits_behind-below p (low ∷ lows) small =
     (last_bits-below p low small.0, bits_behind-below (with_stamp p low) lows small.1)
@@ -54,10 +55,11 @@ AreBits-append : (bs cs : List ℕ) → AreBits bs → AreBits cs → AreBits (b
 AreBits-append [] cs small more = more
 AreBits-append (b ∷ bs) cs small more = (small.0, AreBits-append bs cs small.1 more)
 
-pub all_bits-below : (ps : List Packet) → ArePackets ps → AreBits (all_bits ps)
+pub all_bits-below : (ps : List StampedPacket) → ArePackets ps → AreBits (all_bits ps)
 all_bits-below [] are = tt
 all_bits-below (p ∷ ps) are =
-    AreBits-append (packet_bits p) (all_bits ps) (bits_behind-below (record { high = p.high; lows = [] }) p.lows are.0) (all_bits-below ps are.1)
+    AreBits-append (packet_bits p) (all_bits ps) (bits_behind-below (record { high = p.high; lows = [] }) p.lows are.0)
+    (all_bits-below ps are.1)
 
 -- moments in packets of their own
 
@@ -74,7 +76,8 @@ both_parts moment = omega arith
 near-from : (last : ℕ) (ms : List ℕ) → AreNear last ms → moments_from last (all_bits (stamped_alone ms)) ≡ ms
 near-from last [] near = refl
 near-from last (m ∷ ms) near =
-    let next : next_moment last (128 * ((upper_six m + 0) % 64) + lower_seven m) ≡ m = ap (next_moment last) (both_parts m) ∙ sym (near-next last m near.0 near.1) in
+    let next : next_moment last (128 * ((upper_six m + 0) % 64) + lower_seven m) ≡ m =
+    ap (next_moment last) (both_parts m) ∙ sym (near-next last m near.0 near.1) in
     ap (λ z. z ∷ moments_from z (all_bits (stamped_alone ms))) next ∙ ap (λ z. m ∷ z) (near-from m ms near.2)
 
 pub near-all : (ms : List ℕ) → AreNear 0 ms → moments_from 0 (all_bits (stamped_alone ms)) ≡ ms

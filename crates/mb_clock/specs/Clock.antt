@@ -6,7 +6,7 @@
 --   begun c high          a packet begins
 --   stamped c low         a stamp follows
 use Rattle.std.specs.Prelude.{ℕ, ◌+◌, ◌*◌, ◌%◌, nat_lt, if◌then◌else◌, List, []}
-use Rattle.mb_clock.specs.Stamps.{Packet, last_or, last_upper}
+use Rattle.mb_clock.specs.Stamps.{StampedPacket, last_or, last_upper}
 use Rattle.mb_clock.specs.Moments.{next_moment, moments}
 
 pub record Clock : Type 0 where
@@ -14,13 +14,13 @@ pub record Clock : Type 0 where
   pub lower : ℕ
   pub moment : ℕ
 
-abbrev pub last_packet : List Packet → Packet
+abbrev pub last_packet : List StampedPacket → StampedPacket
 last_packet ps = last_or (record { high = 0; lows = [] }) ps
 
-abbrev pub last_moment : List Packet → ℕ
+abbrev pub last_moment : List StampedPacket → ℕ
 last_moment ps = last_or 0 (moments ps)
 
-abbrev pub clock_of : List Packet → Clock
+abbrev pub clock_of : List StampedPacket → Clock
 clock_of ps = record {
   upper = last_upper (last_packet ps);
   lower = last_or 0 (last_packet ps).lows;

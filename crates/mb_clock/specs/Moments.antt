@@ -8,7 +8,7 @@
 --   moments ps                    the moments of all stamps of the packets: before the first stands 0, so it has its 13
 --                                 bits as its moment
 use Rattle.std.specs.Prelude.{◌≡◌, ℕ, ◌+◌, ◌-◌, ◌%◌, ◌<◌, ◌≤◌, List, [], ◌∷◌, map}
-use Rattle.mb_clock.specs.Stamps.{Packet, all_bits, upper_six, lower_seven}
+use Rattle.mb_clock.specs.Stamps.{StampedPacket, all_bits, upper_six, lower_seven}
 
 pub record IsNextMoment (last bits moment : ℕ) : Type 0 where
   pub not_below : last ≤ moment
@@ -25,7 +25,7 @@ abbrev pub AreNear : (last : ℕ) → (moments : List ℕ) → Type 0
 AreNear last [] = Unit {0}
 AreNear last (m ∷ ms) = (last ≤ m) × (m < last + 8192) × AreNear m ms
 
-abbrev pub stamped_alone : (moments : List ℕ) → List Packet
+abbrev pub stamped_alone : (moments : List ℕ) → List StampedPacket
 stamped_alone ms = map (λ m. record { high = upper_six m; lows = lower_seven m ∷ [] }) ms
 
 -- the same, computed
@@ -36,5 +36,5 @@ abbrev pub moments_from : ℕ → List ℕ → List ℕ
 moments_from last [] = []
 moments_from last (b ∷ bs) = next_moment last b ∷ moments_from (next_moment last b) bs
 
-abbrev pub moments : List Packet → List ℕ
+abbrev pub moments : List StampedPacket → List ℕ
 moments ps = moments_from 0 (all_bits ps)

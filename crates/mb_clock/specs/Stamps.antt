@@ -3,7 +3,7 @@
 -- have risen by one. BLE-MIDI 1.0 has at most one such place in a packet; that any number counts is the project's own.
 --
 --   upper_six m, lower_seven m     both parts of a moment's 13 bits
---   Packet                         the header's upper six, and the lower seven of the stamps in order
+--   StampedPacket                         the header's upper six, and the lower seven of the stamps in order
 --   falls lows                     how often the lower seven fall
 --   last_bits p                    the 13 bits of a packet's last stamp
 --   all_bits ps                    the 13 bits of each stamp of the packets, in order
@@ -16,7 +16,7 @@ upper_six moment = moment / 128 % 64
 abbrev pub lower_seven : (moment : ℕ) → ℕ
 lower_seven moment = moment % 128
 
-pub record Packet : Type 0 where
+pub record StampedPacket : Type 0 where
   pub high : ℕ
   pub lows : List ℕ
 
@@ -35,30 +35,30 @@ falls [] = 0
 falls (low ∷ lows) = falls_behind low lows
 
 -- the upper six bits at the packet's last stamp: the header's, and one more for each fall
-abbrev pub last_upper : Packet → ℕ
+abbrev pub last_upper : StampedPacket → ℕ
 last_upper p = (p.high + falls p.lows) % 64
 
-abbrev pub last_bits : Packet → ℕ
+abbrev pub last_bits : StampedPacket → ℕ
 last_bits p = 128 * last_upper p + last_or 0 p.lows
 
-abbrev pub with_stamp : Packet → ℕ → Packet
+abbrev pub with_stamp : StampedPacket → ℕ → StampedPacket
 with_stamp p low = record { high = p.high; lows = p.lows ++ low ∷ [] }
 
 -- the 13 bits of each of these stamps, which stand behind the packet's others
-abbrev pub bits_behind : Packet → List ℕ → List ℕ
+abbrev pub bits_behind : StampedPacket → List ℕ → List ℕ
 bits_behind p [] = []
 bits_behind p (low ∷ lows) = last_bits (with_stamp p low) ∷ bits_behind (with_stamp p low) lows
 
-abbrev pub packet_bits : Packet → List ℕ
+abbrev pub packet_bits : StampedPacket → List ℕ
 packet_bits p = bits_behind (record { high = p.high; lows = [] }) p.lows
 
-abbrev pub all_bits : List Packet → List ℕ
+abbrev pub all_bits : List StampedPacket → List ℕ
 all_bits ps = flat_map packet_bits ps
 
 abbrev pub AreSevens : List ℕ → Type 0
 AreSevens [] = Unit {0}
 AreSevens (low ∷ lows) = (low < 128) × AreSevens lows
 
-abbrev pub ArePackets : List Packet → Type 0
+abbrev pub ArePackets : List StampedPacket → Type 0
 ArePackets [] = Unit {0}
 ArePackets (p ∷ ps) = AreSevens p.lows × ArePackets ps

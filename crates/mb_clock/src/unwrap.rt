@@ -1,7 +1,7 @@
 //! From stamps to moments.
 
 ghost use Rattle.std.specs.Prelude.{◌≡◌, ℕ, ◌+◌, ◌*◌, ◌^◌, ◌<◌, List, [], ◌∷◌, ◌++◌};
-ghost use Rattle.mb_clock.specs.Stamps.{Packet, with_stamp};
+ghost use Rattle.mb_clock.specs.Stamps.{StampedPacket, with_stamp};
 ghost use Rattle.mb_clock.specs.Moments.{IsNextMoment};
 ghost use Rattle.mb_clock.specs.Clock.{begun, clock_of, last_moment, stamped};
 
@@ -44,7 +44,7 @@ impl Unwrap {
     pub fn packet(&mut self, high: u8)
         requires { high < 64 }
         ensures clock { self.new ≡ begun self.old high }
-        ensures all { (packets : List Packet) → self.old ≡ clock_of packets →
+        ensures all { (packets : List StampedPacket) → self.old ≡ clock_of packets →
             self.new ≡ clock_of (packets ++ (record { high = high; lows = [] }) ∷ []) }
     {
         self.upper = high;
@@ -59,7 +59,7 @@ impl Unwrap {
         ensures clock { self.new ≡ stamped self.old low }
         ensures moment { result ≡ self.new.moment }
         // For all packets and stamps so far.
-        ensures all { (packets : List Packet) (packet : Packet) → self.old ≡ clock_of (packets ++ packet ∷ []) →
+        ensures all { (packets : List StampedPacket) (packet : StampedPacket) → self.old ≡ clock_of (packets ++ packet ∷ []) →
             self.new ≡ clock_of (packets ++ with_stamp packet low ∷ []) }
         ensures least { IsNextMoment self.old.moment (128 * self.new.upper + low) result }
     {

@@ -12,10 +12,12 @@ use Rattle.mb_denote.specs.Collected.{Collected, Stands, in_sysex}
 use Rattle.mb_denote.specs.Collecting.{with_mark}
 
 -- what a mark adds, whatever follows
-items_step : (items : List Meant) (realtimes : List Timed) (ended : ℕ) (o : Option (List ℕ)) (m : Sign) (more : List Sign) →
+items_step : (items : List Meant) (realtimes : List Timed) (ended : ℕ) (o : Option (List ℕ)) (m : Sign)
+    (more : List Sign) →
     let c : Collected = record { items = items; realtimes = realtimes; ended = ended; open_data = o } in
     items ++ items_from o (m ∷ more) ≡ (with_mark c m).items ++ items_from (with_mark c m).open_data more
-items_step items realtimes ended o (ShortSign s d1 d2) more = sym (append_assoc items (Message s d1 d2 ∷ []) (items_from o more))
+items_step items realtimes ended o (ShortSign s d1 d2) more =
+    sym (append_assoc items (Message s d1 d2 ∷ []) (items_from o more))
 items_step items realtimes ended o (RtSign b) more = refl
 items_step items realtimes ended o OpenSign more = refl
 items_step items realtimes ended None (ByteSign b) more = refl
@@ -23,9 +25,11 @@ items_step items realtimes ended (Some ds) (ByteSign b) more = refl
 items_step items realtimes ended None EndSign more = refl
 items_step items realtimes ended (Some ds) EndSign more = sym (append_assoc items (Syx ds ∷ []) (items_from None more))
 items_step items realtimes ended None AbortSign more = refl
-items_step items realtimes ended (Some ds) AbortSign more = sym (append_assoc items (Broken ds ∷ []) (items_from None more))
+items_step items realtimes ended (Some ds) AbortSign more = sym (append_assoc items (Broken ds ∷ [])
+    (items_from None more))
 
-realtimes_step : (items : List Meant) (realtimes : List Timed) (ended : ℕ) (o : Option (List ℕ)) (m : Sign) (more : List Sign) →
+realtimes_step : (items : List Meant) (realtimes : List Timed) (ended : ℕ) (o : Option (List ℕ)) (m : Sign)
+    (more : List Sign) →
     let c : Collected = record { items = items; realtimes = realtimes; ended = ended; open_data = o } in
     realtimes ++ realtimes_from (in_sysex c) ended (m ∷ more) ≡
     (with_mark c m).realtimes ++ realtimes_from (in_sysex (with_mark c m)) (with_mark c m).ended more
@@ -40,7 +44,8 @@ realtimes_step items realtimes ended (Some ds) EndSign more = refl
 realtimes_step items realtimes ended o AbortSign more = refl
 
 -- whether a SysEx is open behind it
-open_step : (items : List Meant) (realtimes : List Timed) (ended : ℕ) (o : Option (List ℕ)) (m : Sign) → suits_sign (is_some o) m ≡ true →
+open_step : (items : List Meant) (realtimes : List Timed) (ended : ℕ) (o : Option (List ℕ)) (m : Sign) →
+    suits_sign (is_some o) m ≡ true →
     let c : Collected = record { items = items; realtimes = realtimes; ended = ended; open_data = o } in
     in_sysex (with_mark c m) ≡ open_after (is_some o) m
 open_step items realtimes ended None (ShortSign s d1 d2) suits = refl
@@ -52,13 +57,17 @@ open_step items realtimes ended (Some ds) (ByteSign b) suits = refl
 open_step items realtimes ended o EndSign suits = refl
 open_step items realtimes ended o AbortSign suits = refl
 
-pub Stands_put : (c : Collected) (m : Sign) (ms : List Sign) → suits_sign (in_sysex c) m ≡ true → Stands c ms → Stands (with_mark c m) (ms ++ m ∷ [])
+pub Stands_put : (c : Collected) (m : Sign) (ms : List Sign) → suits_sign (in_sysex c) m ≡ true → Stands c ms →
+    Stands (with_mark c m) (ms ++ m ∷ [])
 Stands_put c m ms suits h = record {
-  open_too = open_step c.items c.realtimes c.ended c.open_data m suits ∙ ap (λ (o : Bool). open_after o m) h.open_too ∙ sym (is_open-push ms m);
+  open_too = open_step c.items c.realtimes c.ended c.open_data m suits ∙ ap (λ (o : Bool). open_after o m) h.open_too ∙
+      sym (is_open-push ms m);
   items_hold = λ more.
-      ap (items_from None) (append_assoc ms (m ∷ []) more) ∙ h.items_hold (m ∷ more) ∙ items_step c.items c.realtimes c.ended c.open_data m more;
+      ap (items_from None) (append_assoc ms (m ∷ []) more) ∙ h.items_hold (m ∷ more) ∙ items_step c.items c.realtimes
+      c.ended c.open_data m more;
   realtimes_hold = λ more.
-      ap (realtimes_from false 0) (append_assoc ms (m ∷ []) more) ∙ h.realtimes_hold (m ∷ more) ∙ realtimes_step c.items c.realtimes c.ended c.open_data m more;
+      ap (realtimes_from false 0) (append_assoc ms (m ∷ []) more) ∙ h.realtimes_hold (m ∷ more) ∙
+      realtimes_step c.items c.realtimes c.ended c.open_data m more;
 }
 
 -- the end of the marks
@@ -66,7 +75,8 @@ items_finished : (c : Collected) (ms : List Sign) → Stands c ms → items_from
 items_finished c ms h = ap (items_from None) (sym (append-nil ms)) ∙ h.items_hold []
 
 realtimes_finished : (c : Collected) (ms : List Sign) → Stands c ms → realtimes_from false 0 ms ≡ c.realtimes
-realtimes_finished c ms h = ap (realtimes_from false 0) (sym (append-nil ms)) ∙ h.realtimes_hold [] ∙ append-nil c.realtimes
+realtimes_finished c ms h = ap (realtimes_from false 0) (sym (append-nil ms)) ∙ h.realtimes_hold [] ∙
+    append-nil c.realtimes
 
 pub Stands_finish : (c : Collected) (ms : List Sign) (d : Denotation) → Stands c ms →
     d.items ≡ c.items ++ left_open c.open_data → d.realtimes ≡ c.realtimes → d ≡ denotation ms

@@ -4,7 +4,8 @@ use Rattle.mb_message.specs.Signs.{Sign, ShortSign, RtSign, OpenSign, ByteSign, 
 use Rattle.mb_denote.specs.declared.counts.Counts.{Counts}
 use Rattle.mb_denote.specs.Counted.{Counted, number_of, with_mark, is_short_sign, is_end, is_abort, is_rt}
 
-pub number_of-push : (p : Sign → Bool) (ms : List Sign) (m : Sign) → number_of p (ms ++ m ∷ []) ≡ number_of p ms + (if p m then 1 else 0)
+pub number_of-push : (p : Sign → Bool) (ms : List Sign) (m : Sign) → number_of p (ms ++ m ∷ []) ≡ number_of p ms +
+    (if p m then 1 else 0)
 number_of-push p [] m = omega arith
 number_of-push p (x ∷ ms) m = omega (arith, number_of-push p ms m)
 

@@ -5,7 +5,13 @@ use Rattle.mb_stream.specs.Denotation.{Message, Syx, Broken, denotation}
 
 clock_inside_a_sysex_stands_before_its_end :
     denotation (OpenSign ∷ ByteSign 1 ∷ RtSign 0xf8 ∷ ByteSign 2 ∷ EndSign ∷ RtSign 0xfa ∷ []) ≡
-    record { items = Syx (1 ∷ 2 ∷ []) ∷ []; realtimes = record { byte = 0xf8; after = 0 } ∷ record { byte = 0xfa; after = 1 } ∷ [] }
+    record {
+      items = Syx (1 ∷ 2 ∷ []) ∷ [];
+      realtimes = record { byte = 0xf8; after = 0 } ∷ record {
+        byte = 0xfa;
+        after = 1;
+      } ∷ [];
+    }
 clock_inside_a_sysex_stands_before_its_end = refl
 
 broken_sysex_counts_for_nothing :
@@ -16,5 +22,9 @@ broken_sysex_counts_for_nothing :
     }
 broken_sysex_counts_for_nothing = refl
 
-sysex_that_stays_open_is_broken : denotation (OpenSign ∷ EndSign ∷ OpenSign ∷ ByteSign 1 ∷ []) ≡ record { items = Syx [] ∷ Broken (1 ∷ []) ∷ []; realtimes = [] }
+sysex_that_stays_open_is_broken : denotation (OpenSign ∷ EndSign ∷ OpenSign ∷ ByteSign 1 ∷ []) ≡ record {
+  items =
+      Syx [] ∷ Broken (1 ∷ []) ∷ [];
+  realtimes = [];
+}
 sysex_that_stays_open_is_broken = refl

@@ -14,7 +14,7 @@ use Rattle.mb_ports.proofs.MachineLaw.{events_from-append}
 use Rattle.mb_fire.specs.declared.place.BegunHeader.{BegunHeader}
 use Rattle.mb_fire.specs.declared.place.Place.{Place}
 use Rattle.mb_fire.specs.declared.place.Place.TheVariants.{Between, Heading, Within}
-use Rattle.mb_fire.specs.Packets.{placed_frames, Frame, frames, Header, header_of, is_cip, has_blocks, blocks_from}
+use Rattle.mb_fire.specs.Packets.{placed_frames, Frame, frames, CipHeader, header_of, is_cip, has_blocks, blocks_from}
 use Rattle.mb_fire.specs.Packets.{blocks_of}
 use Rattle.mb_fire.specs.Reading.{noted, known_notes, gap_note, short_note, expected_by, expected}
 use Rattle.mb_fire.specs.Under.{passed, header_in, behind_length, behind_header, first_block, expected_behind}
@@ -31,7 +31,7 @@ frames_from most at bytes = placed_frames at (framed_from most bytes)
 
 -- Events of the cuts.
 
-abbrev pub header_events : (f : ℕ → Option ℕ) → Option ℕ → Frame → Option Header → List Event
+abbrev pub header_events : (f : ℕ → Option ℕ) → Option ℕ → Frame → Option CipHeader → List Event
 header_events f e x None = []
 header_events f e x (Some h) = map Remarked (known_notes e x h)
     ++ (if has_blocks h then flat_map (block_events f h.dbs h.dbc) (blocks_of x h) else [])
@@ -68,10 +68,10 @@ none-left d n h = sym (ap (λ k. (4 * d) * k + n % (4 * d)) h ∙ nothing (4 * d
 abbrev pub head : (len sid dbs dbc fmt fdf : ℕ) → BegunHeader
 head len a d n m t = record { len = len; taken = 7; sid = a; dbs = d; dbc = n; fmt = m; fdf = t }
 
-abbrev pub header : (sid dbs dbc fmt fdf : ℕ) → Header
+abbrev pub header : (sid dbs dbc fmt fdf : ℕ) → CipHeader
 header a d n m t = record { sid = a; dbs = d; dbc = n; fmt = m; fdf = t }
 
-pub some-dbs : (h : Header) → has_blocks h ≡ true → 0 < h.dbs
+pub some-dbs : (h : CipHeader) → has_blocks h ≡ true → 0 < h.dbs
 some-dbs h e = by_zero (h.dbs == 0) refl where
   last : (a b c : Bool) → (a && (b && not c)) ≡ true → c ≡ false
   last true true false w = refl

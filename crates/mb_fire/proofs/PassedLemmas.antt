@@ -13,7 +13,7 @@ use Rattle.mb_fire.specs.declared.place.BegunHeader.{BegunHeader}
 use Rattle.mb_fire.specs.declared.place.BlockPlace.{BlockPlace}
 use Rattle.mb_fire.specs.declared.place.Place.{Place}
 use Rattle.mb_fire.specs.declared.place.Place.TheVariants.{Between, High, Heading, Within}
-use Rattle.mb_fire.specs.declared.under.Packet.{Packet}
+use Rattle.mb_fire.specs.declared.under.Packets.{Packets}
 use Rattle.mb_fire.specs.Packets.{is_midi}
 use Rattle.mb_fire.specs.Passed.{carries, is_passed, IsQuiet, behind_whole_header, behind_whole_quadlet}
 use Rattle.mb_fire.specs.Passed.{behind_whole_rest, behind_whole_label, ArePassed, PassedOver}
@@ -25,28 +25,28 @@ use Rattle.mb_fire.proofs.QuadletEvents.{skip_by}
 
 -- One run of them behind another.
 
-packet_behind-append : (p : Packet) (xs ys : List ℕ) → packet_behind p (xs ++ ys)
+packet_behind-append : (p : Packets) (xs ys : List ℕ) → packet_behind p (xs ++ ys)
     ≡ packet_behind (packet_behind p xs) ys
 packet_behind-append p [] ys = refl
 packet_behind-append p (x ∷ xs) ys = packet_behind-append (packet_after p x) xs ys
 
-ArePassed-append : (w : ℕ) (p : Packet) (xs ys : List ℕ) → ArePassed w p xs → ArePassed w (packet_behind p xs) ys →
+ArePassed-append : (w : ℕ) (p : Packets) (xs ys : List ℕ) → ArePassed w p xs → ArePassed w (packet_behind p xs) ys →
     ArePassed w p (xs ++ ys)
 ArePassed-append w p [] ys h k = k
 ArePassed-append w p (x ∷ xs) ys h k = (h.0, h.1, ArePassed-append w (packet_after p x) xs ys h.2 k)
 
-pub passed-then : (w : ℕ) (p q r : Packet) (input between left : List ℕ) → PassedOver w p q input between →
+pub passed-then : (w : ℕ) (p q r : Packets) (input between left : List ℕ) → PassedOver w p q input between →
     PassedOver w q r between left → PassedOver w p r input left
 passed-then w p q r input between left h k = record {
   taken = h.taken ++ k.taken;
   front = h.front ∙ (ap (λ z. h.taken ++ z) k.front ∙ sym (append_assoc h.taken k.taken left));
   passed = ArePassed-append w p h.taken k.taken h.passed
-      (subst (λ (z : Packet). ArePassed w z k.taken) h.behind k.passed);
-  behind = k.behind ∙ (ap (λ (z : Packet). packet_behind z k.taken) h.behind
+      (subst (λ (z : Packets). ArePassed w z k.taken) h.behind k.passed);
+  behind = k.behind ∙ (ap (λ (z : Packets). packet_behind z k.taken) h.behind
       ∙ sym (packet_behind-append p h.taken k.taken));
 }
 
-pub passed-five : (w : ℕ) (p q r s t u : Packet) (a b c d e f : List ℕ) → PassedOver w p q a b → PassedOver w q r b c →
+pub passed-five : (w : ℕ) (p q r s t u : Packets) (a b c d e f : List ℕ) → PassedOver w p q a b → PassedOver w q r b c →
     PassedOver w r s c d → PassedOver w s t d e → PassedOver w t u e f → PassedOver w p u a f
 passed-five w p q r s t u a b c d e f h i j k l =
     passed-then w p t u a e f (passed-then w p s t a d e (passed-then w p r s a c d (passed-then w p q r a b c h i) j)
@@ -54,7 +54,7 @@ passed-five w p q r s t u a b c d e f h i j k l =
 
 -- A header.
 
-abbrev pub at_place : (offset : ℕ) → Place → Option ℕ → Due → Packet
+abbrev pub at_place : (offset : ℕ) → Place → Option ℕ → Due → Packets
 at_place o u e d = record { offset = o; under = U u e; due = d }
 
 and-false : (t : Bool) → (t && false) ≡ false
@@ -82,7 +82,7 @@ length-long o h l e long =
     (due_by (if t then record { kind = BadCip; at = o - 1 } ∷ [] else []))) enough
 
 -- behind the length: eight bytes, of which only the last makes something known
-abbrev begun : (offset len : ℕ) → Option ℕ → Packet
+abbrev begun : (offset len : ℕ) → Option ℕ → Packets
 begun o len e = at_place o (Heading (header len 0 0 0 0 0 0)) e Nothing
 
 behind-eight : (o len a b c d f g x y : ℕ) (e : Option ℕ) →
@@ -100,7 +100,7 @@ eight-passed w o len a b c d f g x y e =
     let none : ((0 == w) && false) ≡ false = and-false (0 == w) in
     (refl, none, (refl, none, (refl, none, (refl, none, (refl, none, (refl, none, (refl, none, (refl, none, tt))))))))
 
-header-of : (w : ℕ) (o high low a b c d f g x y : ℕ) (e : Option ℕ) (q : Packet) (left : List ℕ) →
+header-of : (w : ℕ) (o high low a b c d f g x y : ℕ) (e : Option ℕ) (q : Packets) (left : List ℕ) →
     8 ≤ 256 * high + low →
     q ≡ behind_whole_header (at_place o Between e Nothing) (header (256 * high + low) 7 a b d f g) →
     PassedOver w (at_place o Between e Nothing) q (high ∷ low ∷ a ∷ b ∷ c ∷ d ∷ f ∷ g ∷ x ∷ y ∷ left) left
@@ -118,24 +118,24 @@ header-of w o high low a b c d f g x y e q left long after =
         (
           refl,
           none,
-          subst (λ (z : Packet). ArePassed w z eight) (sym here)
+          subst (λ (z : Packets). ArePassed w z eight) (sym here)
               (eight-passed w (o + 1 + 1) (256 * high + low) a b c d f g x y e),
         ),
       );
       behind = after ∙ (sym (behind-eight o (256 * high + low) a b c d f g x y e)
-          ∙ ap (λ (z : Packet). packet_behind z eight) (sym here));
+          ∙ ap (λ (z : Packets). packet_behind z eight) (sym here));
     }
 
-pub header-passed : (w : ℕ) (p q : Packet) (high low a b c d f g x y : ℕ) (left : List ℕ) → p.due ≡ Nothing →
+pub header-passed : (w : ℕ) (p q : Packets) (high low a b c d f g x y : ℕ) (left : List ℕ) → p.due ≡ Nothing →
     p.under.place ≡ Between → 8 ≤ 256 * high + low →
     q ≡ behind_whole_header p (header (256 * high + low) 7 a b d f g) →
     PassedOver w p q (high ∷ low ∷ a ∷ b ∷ c ∷ d ∷ f ∷ g ∷ x ∷ y ∷ left) left
 header-passed w p q high low a b c d f g x y left due between long after =
     let is : at_place p.offset Between p.under.expected Nothing ≡ p =
     ap₂ (λ (u : Place) (n : Due). at_place p.offset u p.under.expected n) (sym between) (sym due) in
-    subst (λ (z : Packet). PassedOver w z q (high ∷ low ∷ a ∷ b ∷ c ∷ d ∷ f ∷ g ∷ x ∷ y ∷ left) left) is
+    subst (λ (z : Packets). PassedOver w z q (high ∷ low ∷ a ∷ b ∷ c ∷ d ∷ f ∷ g ∷ x ∷ y ∷ left) left) is
     (header-of w p.offset high low a b c d f g x y p.under.expected q left long
-    (after ∙ ap (λ (z : Packet). behind_whole_header z (header (256 * high + low) 7 a b d f g)) (sym is)))
+    (after ∙ ap (λ (z : Packets). behind_whole_header z (header (256 * high + low) 7 a b d f g)) (sym is)))
 
 -- A quadlet.
 
@@ -143,7 +143,7 @@ abbrev port : (count midi : ℕ) → ℕ
 port n m = 8 * ((m - 1) % 8) + n % 8
 
 -- behind its label
-abbrev pub within : (offset : ℕ) → BlockPlace → Option ℕ → Packet
+abbrev pub within : (offset : ℕ) → BlockPlace → Option ℕ → Packets
 within o c e = at_place o (Within c) e Nothing
 
 behind-three : (o d n b r q m l s : ℕ) (e : Option ℕ) (x y z : ℕ) → Few l s →
@@ -206,7 +206,7 @@ not-carried w d n b r q m l true h c some =
     four : (f g h i : Bool) → f ≡ true → g ≡ true → h ≡ true → (f && g && h && i) ≡ i
     four f g h i a b c = ap₂ (λ s t. s && t && h && i) a b ∙ ap (λ s. s && i) c
 
-quadlet-of : (w o d n b r q m l x y z : ℕ) (e : Option ℕ) (now : Packet) (left : List ℕ) →
+quadlet-of : (w o d n b r q m l x y z : ℕ) (e : Option ℕ) (now : Packets) (left : List ℕ) →
     carries w (S d n b r q m 0 0) l ≡ false →
     now ≡ behind_whole_quadlet (within o (S d n b r q m 0 0) e) (S d n b r q m 0 0) l →
     PassedOver w (within o (S d n b r q m 0 0) e) now (l ∷ x ∷ y ∷ z ∷ left) left
@@ -231,7 +231,7 @@ quadlet-of w o d n b r q m l x y z e now left other after =
           ∙ ap (λ (k : BlockPlace). packet_behind (within (o + 1) k e) (x ∷ y ∷ z ∷ [])) (sym is)));
     }
 
-pub quadlet-passed : (w : ℕ) (p now : Packet) (c : BlockPlace) (l x y z : ℕ) (left : List ℕ) → p.due ≡ Nothing →
+pub quadlet-passed : (w : ℕ) (p now : Packets) (c : BlockPlace) (l x y z : ℕ) (left : List ℕ) → p.due ≡ Nothing →
     p.under.place ≡ Within c → is_passed w c l ≡ true →
     now ≡ behind_whole_quadlet p c l → PassedOver w p now (l ∷ x ∷ y ∷ z ∷ left) left
 quadlet-passed w p now c l x y z left due at passes after =
@@ -245,10 +245,10 @@ quadlet-passed w p now c l x y z left due at passes after =
     ap₂ (λ (u : Place) (n : Due). at_place p.offset u p.under.expected n) (ap Within (sym begins) ∙ sym at)
     (sym due) in
     let other : carries w first l ≡ false = not-true (carries w c l) parts.1 in
-    subst (λ (k : Packet). PassedOver w k now (l ∷ x ∷ y ∷ z ∷ left) left) is
+    subst (λ (k : Packets). PassedOver w k now (l ∷ x ∷ y ∷ z ∷ left) left) is
     (quadlet-of w p.offset c.dbs c.count c.blocks c.ragged c.quadlets c.midi l x y z p.under.expected now left other
     (after ∙ (ap (λ (k : BlockPlace). behind_whole_quadlet p k l) begins
-    ∙ ap (λ (k : Packet). behind_whole_quadlet k first l) (sym is))))
+    ∙ ap (λ (k : Packets). behind_whole_quadlet k first l) (sym is))))
   where
     not-true : (t : Bool) → not t ≡ true → t ≡ false
     not-true true e = cc
@@ -256,7 +256,7 @@ quadlet-passed w p now c l x y z left due at passes after =
 
 -- A label.
 
-pub label-passed : (w : ℕ) (p now : Packet) (c : BlockPlace) (l : ℕ) (left : List ℕ) → p.due ≡ Nothing → p.under.place
+pub label-passed : (w : ℕ) (p now : Packets) (c : BlockPlace) (l : ℕ) (left : List ℕ) → p.due ≡ Nothing → p.under.place
     ≡ Within c → c.left ≡ 0 → c.skip ≡ 0 →
     now ≡ behind_whole_label p c l → PassedOver w p now (l ∷ left) left
 label-passed w p now c l left due at none over after =
@@ -265,12 +265,12 @@ label-passed w p now c l left due at none over after =
     let is : within p.offset first p.under.expected ≡ p =
     ap₂ (λ (u : Place) (n : Due). at_place p.offset u p.under.expected n) (ap Within (sym begins) ∙ sym at)
     (sym due) in
-    subst (λ (k : Packet). PassedOver w k now (l ∷ left) left) is (record {
+    subst (λ (k : Packets). PassedOver w k now (l ∷ left) left) is (record {
       taken = l ∷ [];
       front = refl;
       passed = (refl, and-false (port c.count c.midi == w), tt);
       behind = after ∙ (ap (λ (k : BlockPlace). behind_whole_label p k l) begins
-          ∙ ap (λ (k : Packet). behind_whole_label k first l) (sym is));
+          ∙ ap (λ (k : Packets). behind_whole_label k first l) (sym is));
     })
 
 -- Bytes behind a label, one after the other.
@@ -311,7 +311,7 @@ skip-behind o c e zero (x ∷ y ∷ bs) long = absurd (omega (arith, long))
 skip-behind o c e (suc s) (x ∷ bs) long =
     let less : suc (suc s) - 1 ≡ suc s = omega arith in
     let end : o + 1 + suc s ≡ o + suc (suc s) = omega arith in
-    ap (λ (z : Packet). packet_behind z bs) (one-inner o (skipping c (suc (suc s))) e Nothing x (omega arith)
+    ap (λ (z : Packets). packet_behind z bs) (one-inner o (skipping c (suc (suc s))) e Nothing x (omega arith)
     ∙ ap (λ k. within (o + 1) (skipping c k) e) less) ∙
     (skip-behind (o + 1) c e s bs (omega (arith, long))
     ∙ ap (λ i. at_place i (behind_quadlet (skipping c (suc s))) e
@@ -327,13 +327,13 @@ skip-passed w o c e (suc (suc s)) (x ∷ y ∷ bs) long =
     let less : suc (suc s) - 1 ≡ suc s = omega arith in (
       refl,
       and-false (port c.count c.midi == w),
-      subst (λ (z : Packet). ArePassed w z (y ∷ bs))
+      subst (λ (z : Packets). ArePassed w z (y ∷ bs))
           (sym (one-inner o (skipping c (suc (suc s))) e Nothing x (omega arith)
           ∙ ap (λ k. within (o + 1) (skipping c k) e) less))
           (skip-passed w (o + 1) c e (suc s) (y ∷ bs) (omega (arith, long))),
     )
 
-pub rest-passed : (w : ℕ) (p now : Packet) (c : BlockPlace) (bytes left input : List ℕ) → p.due ≡ Nothing →
+pub rest-passed : (w : ℕ) (p now : Packets) (c : BlockPlace) (bytes left input : List ℕ) → p.due ≡ Nothing →
     p.under.place ≡ Within c → c.left ≡ 0 → 0 < c.skip → length bytes ≡ c.skip → input ≡ bytes ++ left →
     now ≡ behind_whole_rest p c → PassedOver w p now input left
 rest-passed w p now c bytes left input due at none some long front after = by_skip c.skip refl some where
@@ -345,13 +345,13 @@ rest-passed w p now c bytes left input due at none some long front after = by_sk
       let is : within p.offset (skipping c (suc s)) p.under.expected ≡ p =
       ap₂ (λ (u : Place) (n : Due). at_place p.offset u p.under.expected n) (ap Within (sym begins) ∙ sym at)
       (sym due) in
-      subst (λ (k : Packet). PassedOver w k now input left) is (record {
+      subst (λ (k : Packets). PassedOver w k now input left) is (record {
         taken = bytes;
         front = front;
         passed = skip-passed w p.offset c p.under.expected (suc s) bytes (long ∙ e);
         behind =
             after ∙ (ap (λ (k : BlockPlace). behind_whole_rest p k) begins
-            ∙ (ap (λ (k : Packet). behind_whole_rest k (skipping c (suc s))) (sym is) ∙
+            ∙ (ap (λ (k : Packets). behind_whole_rest k (skipping c (suc s))) (sym is) ∙
             sym (skip-behind p.offset c p.under.expected s bytes (long ∙ e))));
       })
 
@@ -367,7 +367,7 @@ carried-inner o c e d b (x ∷ xs) fits more =
     let next : BlockPlace = record c { left = c.left - 1 } in
     let end : o + 1 + suc (length xs) ≡ o + suc (length (x ∷ xs)) = omega arith in
     let less : c.left - 1 - suc (length xs) ≡ c.left - suc (length (x ∷ xs)) = omega arith in
-    ap (λ (z : Packet). packet_behind z (x ∷ xs)) (one-inner o c e d b (omega arith)
+    ap (λ (z : Packets). packet_behind z (x ∷ xs)) (one-inner o c e d b (omega arith)
     ∙ ap (λ k. within (o + 1) k e) (own-less c (omega arith))) ∙
     (carried-inner (o + 1) next e Nothing x xs (omega arith) (omega arith)
     ∙ ap₂ (λ (i l : ℕ). within i (record c { left = l }) e) end less)
@@ -382,7 +382,7 @@ carried-last o c e d b [] fits none =
 carried-last o c e d b (x ∷ xs) fits none =
     let next : BlockPlace = record c { left = c.left - 1 } in
     let end : o + 1 + suc (length xs) ≡ o + suc (length (x ∷ xs)) = omega arith in
-    ap (λ (z : Packet). packet_behind z (x ∷ xs)) (one-inner o c e d b (omega arith)
+    ap (λ (z : Packets). packet_behind z (x ∷ xs)) (one-inner o c e d b (omega arith)
     ∙ ap (λ k. within (o + 1) k e) (own-less c (omega arith))) ∙
     (carried-last (o + 1) next e Nothing x xs (omega arith) none
     ∙ ap (λ i. at_place i (behind_quadlet c) e (due_by (notes_behind c (i - 1)))) end)
@@ -390,7 +390,7 @@ carried-last o c e d b (x ∷ xs) fits none =
 abbrev pub less : BlockPlace → ℕ → BlockPlace
 less c n = record c { left = c.left - n }
 
-pub carried-whole : (p : Packet) (c : BlockPlace) (bs : List ℕ) → p.under.place ≡ Within c → (length bs == 0) ≡ false →
+pub carried-whole : (p : Packets) (c : BlockPlace) (bs : List ℕ) → p.under.place ≡ Within c → (length bs == 0) ≡ false →
     length bs ≤ c.left → c.left - length bs ≡ 0 → c.skip ≡ 0 →
     at_place (p.offset + length bs) (behind_quadlet (less c (length bs))) p.under.expected
     (due_by (notes_behind (less c (length bs)) (p.offset + length bs - 1))) ≡ packet_behind p bs
@@ -399,9 +399,9 @@ carried-whole p c (b ∷ bs) at some fits none over =
     let is : at_place p.offset (Within c) p.under.expected p.due ≡ p =
     ap (λ (u : Place). at_place p.offset u p.under.expected p.due) (sym at) in
     sym (carried-last p.offset c p.under.expected p.due b bs (omega arith) over)
-    ∙ ap (λ (k : Packet). packet_behind k (b ∷ bs)) is
+    ∙ ap (λ (k : Packets). packet_behind k (b ∷ bs)) is
 
-pub carried-part : (p : Packet) (c : BlockPlace) (bs : List ℕ) → p.under.place ≡ Within c → (length bs == 0) ≡ false →
+pub carried-part : (p : Packets) (c : BlockPlace) (bs : List ℕ) → p.under.place ≡ Within c → (length bs == 0) ≡ false →
     length bs ≤ c.left → length bs < to_come c →
     within (p.offset + length bs) (less c (length bs)) p.under.expected ≡ packet_behind p bs
 carried-part p c [] at some fits more = cc
@@ -409,7 +409,7 @@ carried-part p c (b ∷ bs) at some fits more =
     let is : at_place p.offset (Within c) p.under.expected p.due ≡ p =
     ap (λ (u : Place). at_place p.offset u p.under.expected p.due) (sym at) in
     sym (carried-inner p.offset c p.under.expected p.due b bs fits more)
-    ∙ ap (λ (k : Packet). packet_behind k (b ∷ bs)) is
+    ∙ ap (λ (k : Packets). packet_behind k (b ∷ bs)) is
 
 -- Quadlets behind which blocks go on.
 
@@ -423,7 +423,7 @@ quiet-passed w o c next e l x y z left h =
     (ap₂ (λ (u : Place) (ns : List Note). at_place (o + 4) u e (due_by ns)) (sym h.goes_on) (sym quiet))
 
 -- nothing was passed over
-pub none-passed : (w : ℕ) (p q : Packet) (input left : List ℕ) → PassedOver w p q input left →
+pub none-passed : (w : ℕ) (p q : Packets) (input left : List ℕ) → PassedOver w p q input left →
     length input ≤ length left → q ≡ p
 none-passed w p q input left h few = by_taken h.taken h.front h.behind where
   by_taken : (taken : List ℕ) → input ≡ taken ++ left → q ≡ packet_behind p taken → q ≡ p

@@ -12,7 +12,7 @@ use Rattle.mb_fire.specs.declared.due.Due.TheVariants.{Nothing}
 use Rattle.mb_fire.specs.declared.place.BegunHeader.{BegunHeader}
 use Rattle.mb_fire.specs.declared.place.BlockPlace.{BlockPlace}
 use Rattle.mb_fire.specs.declared.place.Place.TheVariants.{Within}
-use Rattle.mb_fire.specs.declared.under.Packet.{Packet}
+use Rattle.mb_fire.specs.declared.under.Packets.{Packets}
 use Rattle.mb_fire.specs.State.{is_of_port}
 use Rattle.mb_fire.specs.Under.{behind_header, expected_behind, notes_at_header, label_after, behind_quadlet}
 use Rattle.mb_fire.specs.Under.{notes_behind, due_by, packet_after, packet_behind}
@@ -24,28 +24,28 @@ abbrev pub is_passed : (port : ℕ) → BlockPlace → (label : ℕ) → Bool
 is_passed port c label = (c.left == 0) && (c.skip == 0) && not (carries port c label)
 
 -- the header lacks its last byte
-abbrev pub behind_whole_header : Packet → BegunHeader → Packet
+abbrev pub behind_whole_header : Packets → BegunHeader → Packets
 behind_whole_header p h = record {
   offset = p.offset + 10;
   under = record { place = behind_header h; expected = expected_behind p.under.expected h };
   due = due_by (notes_at_header p.under.expected h (p.offset + 9));
 }
 
-abbrev pub behind_whole_quadlet : Packet → BlockPlace → (label : ℕ) → Packet
+abbrev pub behind_whole_quadlet : Packets → BlockPlace → (label : ℕ) → Packets
 behind_whole_quadlet p c label = record {
   offset = p.offset + 4;
   under = record { place = behind_quadlet (label_after c label); expected = p.under.expected };
   due = due_by (notes_behind (label_after c label) (p.offset + 3));
 }
 
-abbrev pub behind_whole_rest : Packet → BlockPlace → Packet
+abbrev pub behind_whole_rest : Packets → BlockPlace → Packets
 behind_whole_rest p c = record {
   offset = p.offset + c.skip;
   under = record { place = behind_quadlet c; expected = p.under.expected };
   due = due_by (notes_behind c (p.offset + c.skip - 1));
 }
 
-abbrev pub behind_whole_label : Packet → BlockPlace → (label : ℕ) → Packet
+abbrev pub behind_whole_label : Packets → BlockPlace → (label : ℕ) → Packets
 behind_whole_label p c label = record {
   offset = p.offset + 1;
   under = record { place = Within (label_after c label); expected = p.under.expected };
@@ -59,12 +59,12 @@ pub record IsQuiet (port : ℕ) (c : BlockPlace) (label : ℕ) (next : BlockPlac
   pub goes_on : behind_quadlet (label_after c label) ≡ Within next
 
 -- one after the other: none is the port's, and nothing is remarked before the last
-abbrev pub ArePassed : (port : ℕ) → Packet → List ℕ → Type 0
+abbrev pub ArePassed : (port : ℕ) → Packets → List ℕ → Type 0
 ArePassed port p [] = Unit {0}
 ArePassed port p (b ∷ bs) =
     (p.due ≡ Nothing) × (is_of_port port p.under ≡ false) × ArePassed port (packet_after p b) bs
 
-pub record PassedOver (port : ℕ) (was now : Packet) (input left : List ℕ) : Type 0 where
+pub record PassedOver (port : ℕ) (was now : Packets) (input left : List ℕ) : Type 0 where
   pub taken : List ℕ
   pub front : input ≡ taken ++ left
   pub passed : ArePassed port was taken

@@ -8,13 +8,13 @@ ghost use Rattle.mb_fire.specs.Passed.{PassedOver};
 use crate::blocks::{behind_label, behind_quiet, is_passed};
 use crate::due::Due;
 use crate::place::{BegunHeader, Place};
-use crate::under::{Packet, is_of};
+use crate::under::{Packets, is_of};
 
 /// Passes over what stands at the front of the input, up to a byte that is the port's or of which something is
 /// remarked. What is left is answered. `None`, and nothing is passed over, where no such bytes stand there: then one
 /// byte is taken by itself.
 #[inline(always)]
-pub fn pass_whole<'a>(own: u8, packet: &mut Packet, input: &'a [u8]) -> Option<&'a [u8]>
+pub fn pass_whole<'a>(own: u8, packet: &mut Packets, input: &'a [u8]) -> Option<&'a [u8]>
     requires early { packet.old.offset + length input.now < 2 ^ 63 }
     ensures passed { IfSome result (λ left. PassedOver own packet.old packet.new input.now left.now) }
     ensures fewer { IfSome result (λ left. length left.now < length input.now) }
@@ -37,7 +37,7 @@ pub fn pass_whole<'a>(own: u8, packet: &mut Packet, input: &'a [u8]) -> Option<&
 
 /// Passes over a length and the whole header behind it, where no packet is under way.
 #[inline(always)]
-fn pass_header<'a>(packet: &mut Packet, input: &'a [u8]) -> &'a [u8]
+fn pass_header<'a>(packet: &mut Packets, input: &'a [u8]) -> &'a [u8]
     requires early { packet.old.offset + length input.now < 2 ^ 63 }
     ensures passed { (port : ℕ) → PassedOver port packet.old packet.new input.now result.now }
     ensures end { packet.new.offset + length result.now ≡ packet.old.offset + length input.now }
@@ -66,7 +66,7 @@ fn pass_header<'a>(packet: &mut Packet, input: &'a [u8]) -> &'a [u8]
 
 /// Passes over the rest of a quadlet of which no byte is a port's.
 #[inline(always)]
-fn pass_rest<'a>(packet: &mut Packet, input: &'a [u8]) -> &'a [u8]
+fn pass_rest<'a>(packet: &mut Packets, input: &'a [u8]) -> &'a [u8]
     requires early { packet.old.offset + length input.now < 2 ^ 63 }
     ensures passed { (port : ℕ) → PassedOver port packet.old packet.new input.now result.now }
     ensures end { packet.new.offset + length result.now ≡ packet.old.offset + length input.now }
@@ -86,7 +86,7 @@ fn pass_rest<'a>(packet: &mut Packet, input: &'a [u8]) -> &'a [u8]
 /// Passes over quadlets that carry nothing on the port, as long as blocks go on behind them and nothing is remarked
 /// of any.
 #[inline(always)]
-fn pass_quiet<'a>(own: u8, packet: &mut Packet, input: &'a [u8]) -> &'a [u8]
+fn pass_quiet<'a>(own: u8, packet: &mut Packets, input: &'a [u8]) -> &'a [u8]
     requires early { packet.old.offset + length input.now < 2 ^ 63 }
     ensures passed { PassedOver own packet.old packet.new input.now result.now }
     ensures end { packet.new.offset + length result.now ≡ packet.old.offset + length input.now }
@@ -110,7 +110,7 @@ fn pass_quiet<'a>(own: u8, packet: &mut Packet, input: &'a [u8]) -> &'a [u8]
 
 /// Passes over a quadlet that carries nothing on the port, whatever comes behind it.
 #[inline(always)]
-fn pass_quadlet<'a>(own: u8, packet: &mut Packet, input: &'a [u8]) -> &'a [u8]
+fn pass_quadlet<'a>(own: u8, packet: &mut Packets, input: &'a [u8]) -> &'a [u8]
     requires early { packet.old.offset + length input.now < 2 ^ 63 }
     ensures passed { PassedOver own packet.old packet.new input.now result.now }
     ensures end { packet.new.offset + length result.now ≡ packet.old.offset + length input.now }
@@ -130,7 +130,7 @@ fn pass_quadlet<'a>(own: u8, packet: &mut Packet, input: &'a [u8]) -> &'a [u8]
 
 /// Passes over the label of a quadlet.
 #[inline(always)]
-fn pass_label<'a>(packet: &mut Packet, input: &'a [u8]) -> &'a [u8]
+fn pass_label<'a>(packet: &mut Packets, input: &'a [u8]) -> &'a [u8]
     requires early { packet.old.offset + length input.now < 2 ^ 63 }
     ensures passed { (port : ℕ) → PassedOver port packet.old packet.new input.now result.now }
     ensures end { packet.new.offset + length result.now ≡ packet.old.offset + length input.now }

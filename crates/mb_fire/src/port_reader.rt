@@ -16,7 +16,7 @@ ghost use Rattle.mb_fire.specs.State.{IsBehind};
 
 use crate::carry::carry;
 use crate::passed::pass_whole;
-use crate::under::{Packet, is_of, partial};
+use crate::under::{Packets, is_of, partial};
 use mb_din::DinReader;
 use mb_message::Seen;
 use std::marker::Model;
@@ -26,7 +26,7 @@ use std::marker::Model;
 #[derive(Drop)]
 pub struct FirePortReader {
     port: u8,
-    packet: Packet,
+    packet: Packets,
     din: DinReader,
 }
 
@@ -51,7 +51,7 @@ impl FirePortReader {
     {
         FirePortReader {
             port,
-            packet: Packet::new(),
+            packet: Packets::new(),
             din: DinReader::new(),
         }
     }
@@ -115,7 +115,7 @@ impl FirePortReader {
 #[inline(always)]
 fn read_port<'a>(
     own: u8,
-    packet: &mut Packet,
+    packet: &mut Packets,
     din: &mut DinReader,
     input: &mut &'a [u8],
 ) -> Option<Seen<'a>>

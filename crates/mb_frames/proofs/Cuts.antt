@@ -12,20 +12,25 @@ use Rattle.mb_frames.proofs.Steps.{rest_parts-zero, rest_parts-append, parts-cou
 
 -- whole frames
 
-counted-frame : (content more : List ℕ) → counted_parts (frame content ++ more) ≡ frame_parts content ++ counted_parts more
+counted-frame : (content more : List ℕ) → counted_parts (frame content ++ more) ≡ frame_parts content ++
+    counted_parts more
 counted-frame content more =
     let len : 256 * (length content / 256) + length content % 256 ≡ length content = omega arith in
-    let rest : rest_parts (length content) (content ++ more) ≡ map FrameByte content ++ rest_parts 0 more = rest_parts-append (length content) content more 0 (omega arith) in
+    let rest : rest_parts (length content) (content ++ more) ≡ map FrameByte content ++ rest_parts 0 more =
+    rest_parts-append (length content) content more 0 (omega arith) in
     let begins : ℕ → List FramePart = λ n. FrameBegin n ∷ rest_parts n (content ++ more) in
     ap begins len ∙
     (ap (λ z. FrameBegin (length content) ∷ z) (rest ∙ ap (λ z. map FrameByte content ++ z) (rest_parts-zero more)) ∙
-    ap (λ z. FrameBegin (length content) ∷ z) (sym (append_assoc (map FrameByte content) (FrameEnd ∷ []) (counted_parts more))))
+    ap (λ z. FrameBegin (length content) ∷ z) (sym (append_assoc (map FrameByte content) (FrameEnd ∷ [])
+    (counted_parts more))))
 
 parts-frame : (content more : List ℕ) → parts (frame content ++ more) ≡ frame_parts content ++ parts more
 parts-frame content more =
-    parts-counted (frame content ++ more) ∙ (counted-frame content more ∙ ap (λ z. frame_parts content ++ z) (sym (parts-counted more)))
+    parts-counted (frame content ++ more) ∙ (counted-frame content more ∙ ap (λ z. frame_parts content ++
+    z) (sym (parts-counted more)))
 
-pub parts-frames : (contents : List (List ℕ)) (more : List ℕ) → parts (flat_map frame contents ++ more) ≡ flat_map frame_parts contents ++ parts more
+pub parts-frames : (contents : List (List ℕ)) (more : List ℕ) → parts (flat_map frame contents ++ more) ≡
+    flat_map frame_parts contents ++ parts more
 parts-frames [] more = refl
 parts-frames (content ∷ contents) more =
     ap parts (append_assoc (frame content) (flat_map frame contents) more) ∙
@@ -42,11 +47,13 @@ pub parts-unfinished : (rest : List ℕ) → IsUnfinished rest → parts rest �
 parts-unfinished [] is = parts-counted []
 parts-unfinished (high ∷ []) is = parts-counted (high ∷ [])
 parts-unfinished (high ∷ low ∷ content) is =
-    parts-counted (high ∷ low ∷ content) ∙ ap (λ z. FrameBegin (256 * high + low) ∷ z) (rest_parts-short (256 * high + low) content is)
+    parts-counted (high ∷ low ∷ content) ∙ ap (λ z. FrameBegin (256 * high + low) ∷ z)
+    (rest_parts-short (256 * high + low) content is)
 
 pub frames-parts : (contents : List (List ℕ)) → parts (flat_map frame contents) ≡ flat_map frame_parts contents
 frames-parts contents =
-    ap parts (sym (append-nil (flat_map frame contents))) ∙ (parts-frames contents [] ∙ append-nil (flat_map frame_parts contents))
+    ap parts (sym (append-nil (flat_map frame contents))) ∙ (parts-frames contents [] ∙
+    append-nil (flat_map frame_parts contents))
 
 pub frames-whole : (contents : List (List ℕ)) → IsWhole (flat_map frame contents)
 frames-whole contents = record {
@@ -57,12 +64,14 @@ frames-whole contents = record {
 
 -- what is left of a content's bytes: too few, or all and what follows
 abbrev Rest : ℕ → List ℕ → Type 0
-Rest left bytes = (length bytes < left) ⊎ ((content : List ℕ) × (more : List ℕ) × (bytes ≡ content ++ more) × (length content ≡ left) × Cut more)
+Rest left bytes = (length bytes < left) ⊎ ((content : List ℕ) × (more : List ℕ) × (bytes ≡ content ++ more) ×
+    (length content ≡ left) × Cut more)
 
 cut_short : (bytes : List ℕ) → IsUnfinished bytes → Cut bytes
 cut_short bytes is = record { contents = []; rest = bytes; joined = refl; unfinished = is }
 
-frame-length : (high low : ℕ) (content : List ℕ) → low < 256 → length content ≡ 256 * high + low → high ∷ low ∷ content ≡ frame content
+frame-length : (high low : ℕ) (content : List ℕ) → low < 256 → length content ≡ 256 * high + low →
+    high ∷ low ∷ content ≡ frame content
 frame-length high low content small is =
     let first : high ≡ length content / 256 = omega (arith, is) in
     let second : low ≡ length content % 256 = omega (arith, is) in
@@ -93,7 +102,14 @@ cut_rest : (left : ℕ) (bytes : List ℕ) → AreBytes bytes → Rest left byte
 cut_rest zero [] are = inr ([], [], refl, refl, cut_short [] tt)
 cut_rest zero (high ∷ []) are = inr ([], high ∷ [], refl, refl, cut_short (high ∷ []) tt)
 cut_rest zero (high ∷ low ∷ bytes) are =
-    inr ([], high ∷ low ∷ bytes, refl, refl, cut_from high low bytes are.1.0 (cut_rest (256 * high + low) bytes are.1.1))
+    inr (
+      [],
+      high ∷ low ∷ bytes,
+      refl,
+      refl,
+      cut_from high low bytes are.1.0 (cut_rest (256 * high + low) bytes
+          are.1.1),
+    )
 cut_rest (suc left) [] are = inl (omega arith)
 cut_rest (suc left) (b ∷ bytes) are = one_more left b bytes (cut_rest left bytes are.1)
 
@@ -108,11 +124,13 @@ cut (high ∷ low ∷ bytes) are = cut_from high low bytes are.1.0 (cut_rest (25
 tells_more : (bytes : List ℕ) (so_far : List FramePart) (place : Place) (b : ℕ) (x : FramePart) (xs : List FramePart) →
     Stands place bytes so_far → from place [] ≡ [] → from place (b ∷ []) ≡ x ∷ xs → IsWhole bytes → ⊥
 tells_more bytes so_far place b x xs s nothing something whole =
-    let now : parts bytes ≡ so_far = ap parts (sym (append-nil bytes)) ∙ (s.rest [] ∙ (ap (λ z. so_far ++ z) nothing ∙ append-nil so_far)) in
+    let now : parts bytes ≡ so_far = ap parts (sym (append-nil bytes)) ∙
+    (s.rest [] ∙ (ap (λ z. so_far ++ z) nothing ∙ append-nil so_far)) in
     let then_ : parts (bytes ++ b ∷ []) ≡ so_far ++ x ∷ xs = s.rest (b ∷ []) ∙ ap (λ z. so_far ++ z) something in
     let alone : parts (bytes ++ b ∷ []) ≡ parts bytes ++ [] = whole.alone (b ∷ []) in
     let same : so_far ++ x ∷ xs ≡ so_far = sym then_ ∙ (alone ∙ (append-nil (parts bytes) ∙ now)) in
-    let lengths : length so_far + length (x ∷ xs) ≡ length so_far = sym (length-append so_far (x ∷ xs)) ∙ ap length same in
+    let lengths : length so_far + length (x ∷ xs) ≡ length so_far = sym (length-append so_far (x ∷ xs)) ∙
+    ap length same in
     omega (arith, lengths)
 
 tells_alone : (bytes : List ℕ) (so_far : List FramePart) (place : Place) →
@@ -132,12 +150,25 @@ not_true h = cc
 
 pub whole_or_partial : (bytes : List ℕ) (so_far : List FramePart) (place : Place) →
     Stands place bytes so_far → (is_partial place ≡ false → IsWhole bytes) × (IsWhole bytes → is_partial place ≡ false)
-whole_or_partial bytes so_far Between s = (λ h. tells_alone bytes so_far Between s (λ more. sym (parts-counted more)), λ h. refl)
-whole_or_partial bytes so_far (High high) s =
-    (λ h. absurd (not_true h), λ whole. absurd (tells_more bytes so_far (High high) 0 (FrameBegin (256 * high + 0)) (rest_parts (256 * high + 0) []) s refl refl whole))
-whole_or_partial bytes so_far (Within zero) s = (λ h. tells_alone bytes so_far (Within zero) s (λ more. rest_parts-zero more ∙ ap (λ z. FrameEnd ∷ z) (sym (parts-counted more))), λ h. refl)
-whole_or_partial bytes so_far (Within (suc left)) s =
-    (λ h. absurd (not_true (sym (inside left) ∙ h)), λ whole. absurd (tells_more bytes so_far (Within (suc left)) 0 (FrameByte 0) (rest_parts left []) s refl refl whole))
+whole_or_partial bytes so_far Between s = (
+  λ h. tells_alone bytes so_far Between s (λ more. sym (parts-counted more)),
+  λ h. refl,
+)
+whole_or_partial bytes so_far (High high) s = (
+  λ h. absurd (not_true h),
+  λ whole. absurd (tells_more bytes so_far (High high) 0 (FrameBegin (256 * high + 0))
+      (rest_parts (256 * high + 0) []) s refl refl whole),
+)
+whole_or_partial bytes so_far (Within zero) s = (
+  λ h. tells_alone bytes so_far (Within zero) s (λ more.
+      rest_parts-zero more ∙ ap (λ z. FrameEnd ∷ z) (sym (parts-counted more))),
+  λ h. refl,
+)
+whole_or_partial bytes so_far (Within (suc left)) s = (
+  λ h. absurd (not_true (sym (inside left) ∙ h)),
+  λ whole.
+      absurd (tells_more bytes so_far (Within (suc left)) 0 (FrameByte 0) (rest_parts left []) s refl refl whole),
+)
 
 -- What stands for a rest stands for it behind frames.
 stands_behind : (contents : List (List ℕ)) (rest : List ℕ) (place : Place) (so_far : List FramePart) →
@@ -162,19 +193,24 @@ stands_content high low left content is = record {
 }
 
 -- Frames and a rest are whole only where there is no rest.
-rest_nothing : (contents : List (List ℕ)) (rest : List ℕ) → IsUnfinished rest → IsWhole (flat_map frame contents ++ rest) → rest ≡ []
+rest_nothing : (contents : List (List ℕ)) (rest : List ℕ) → IsUnfinished rest → IsWhole (flat_map frame contents ++
+    rest) → rest ≡ []
 rest_nothing contents [] is whole = refl
 rest_nothing contents (high ∷ []) is whole =
-    absurd (tells_more (flat_map frame contents ++ high ∷ []) (flat_map frame_parts contents ++ []) (High high) 0 (FrameBegin (256 * high + 0)) (rest_parts (256 * high + 0) [])
+    absurd (tells_more (flat_map frame contents ++ high ∷ []) (flat_map frame_parts contents ++ []) (High high) 0
+    (FrameBegin (256 * high + 0)) (rest_parts (256 * high + 0) [])
     (stands_behind contents (high ∷ []) (High high) [] (stands_high high)) refl refl whole)
 rest_nothing contents (high ∷ low ∷ content) is whole =
     let left : ℕ = 256 * high + low - length content - 1 in
     let are : 256 * high + low ≡ length content + suc left = omega (arith, is) in
     let so_far : List FramePart = FrameBegin (256 * high + low) ∷ map FrameByte content in
-    absurd (tells_more (flat_map frame contents ++ high ∷ low ∷ content) (flat_map frame_parts contents ++ so_far) (Within (suc left)) 0 (FrameByte 0) (rest_parts left [])
-    (stands_behind contents (high ∷ low ∷ content) (Within (suc left)) so_far (stands_content high low (suc left) content are)) refl refl whole)
+    absurd (tells_more (flat_map frame contents ++ high ∷ low ∷ content) (flat_map frame_parts contents ++ so_far)
+    (Within (suc left)) 0 (FrameByte 0) (rest_parts left [])
+    (stands_behind contents (high ∷ low ∷ content) (Within (suc left)) so_far (stands_content high low (suc left)
+    content are)) refl refl whole)
 
-pub whole-frames : (bytes : List ℕ) → AreBytes bytes → IsWhole bytes → (contents : List (List ℕ)) × (bytes ≡ flat_map frame contents)
+pub whole-frames : (bytes : List ℕ) → AreBytes bytes → IsWhole bytes → (contents : List (List ℕ)) ×
+    (bytes ≡ flat_map frame contents)
 whole-frames bytes are whole =
     let c : Cut bytes = cut bytes are in
     let none : c.rest ≡ [] = rest_nothing c.contents c.rest c.unfinished (subst IsWhole c.joined whole) in

@@ -5,9 +5,10 @@ use Rattle.std.proofs.lemmas.Bool.Decides.{nat_tests}
 use Rattle.std.proofs.lemmas.Grind.{flat_map-append}
 use Rattle.std.proofs.lemmas.List.Folds.{flat_map-map}
 use Rattle.mb_frames.specs.Tapes.{record_bytes}
-use Rattle.mb_frames.specs.Gathered.{Timed, Stretch, alone, before, stretches, pieces, pieces_from, piece_record}
+use Rattle.mb_frames.specs.Gathered.{TimedByte, Stretch, alone, before, stretches, pieces, pieces_from, piece_record}
 use Rattle.mb_frames.specs.Gathered.{stretch_records, gathered}
-use Rattle.mb_frames.specs.Gathering.{Piece, no_piece, written_piece, ended_by, with_byte, gathering, Gathers, behind_magic}
+use Rattle.mb_frames.specs.Gathering.{Piece, no_piece, written_piece, ended_by, with_byte, gathering, Gathers}
+use Rattle.mb_frames.specs.Gathering.{after_magic}
 
 -- a record of a piece, and those of a stretch, as bytes
 
@@ -45,13 +46,14 @@ equal-own : (m : ℕ) → (m == m) ≡ true
 equal-own m = grind (arith, nat_tests)
 
 -- the stretches that a byte begins
-abbrev before_by : (same : Bool) → Timed → Stretch → List Stretch → List Stretch
+abbrev before_by : (same : Bool) → TimedByte → Stretch → List Stretch → List Stretch
 before_by same t s ss = if same then (record { moment = t.moment; bytes = t.byte ∷ s.bytes }) ∷ ss else alone t ∷ s ∷ ss
 
-records-before : (t : Timed) (ss : List Stretch) → flat_map records (before t ss) ≡ front t.moment (t.byte ∷ []) ss
+records-before : (t : TimedByte) (ss : List Stretch) → flat_map records (before t ss) ≡ front t.moment (t.byte ∷ []) ss
 records-before t [] = append-nil _
 records-before t (s ∷ ss) = by (t.moment == s.moment) refl where
-  by : (same : Bool) → (t.moment == s.moment) ≡ same → flat_map records (before_by same t s ss) ≡ front_by (s.moment == t.moment) t.moment (t.byte ∷ []) s ss
+  by : (same : Bool) → (t.moment == s.moment) ≡ same → flat_map records (before_by same t s ss) ≡
+      front_by (s.moment == t.moment) t.moment (t.byte ∷ []) s ss
   by true h =
       let e : (s.moment == t.moment) ≡ true = grind (arith, nat_tests) in
       sym (ap (λ (z : Bool). front_by z t.moment (t.byte ∷ []) s ss) e)
@@ -60,7 +62,7 @@ records-before t (s ∷ ss) = by (t.moment == s.moment) refl where
       sym (ap (λ (z : Bool). front_by z t.moment (t.byte ∷ []) s ss) e)
 
 -- a byte of another moment
-front-other : (m : ℕ) (q : List ℕ) (t : Timed) (ss : List Stretch) → (t.moment == m) ≡ false →
+front-other : (m : ℕ) (q : List ℕ) (t : TimedByte) (ss : List Stretch) → (t.moment == m) ≡ false →
     front m q (before t ss) ≡ cut m q [] ++ flat_map records (before t ss)
 front-other m q t [] h = ap (λ (z : Bool). front_by z m q (alone t) []) h
 front-other m q t (s ∷ ss) h = by (t.moment == s.moment) where
@@ -69,12 +71,13 @@ front-other m q t (s ∷ ss) h = by (t.moment == s.moment) where
   by false = ap (λ (z : Bool). front_by z m q (alone t) (s ∷ ss)) h
 
 -- a byte of the same moment, as the piece is cut there
-front-same : (m : ℕ) (q : List ℕ) (t : Timed) (ss : List Stretch) (w r : List ℕ) → (t.moment == m) ≡ true →
+front-same : (m : ℕ) (q : List ℕ) (t : TimedByte) (ss : List Stretch) (w r : List ℕ) → (t.moment == m) ≡ true →
     ((bs : List ℕ) → cut m q (t.byte ∷ bs) ≡ w ++ cut m r bs) → front m q (before t ss) ≡ w ++ front m r ss
 front-same m q t [] w r h cuts =
     ap (λ (z : Bool). front_by z m q (alone t) []) h ∙ (append-nil (cut m q (t.byte ∷ [])) ∙ cuts [])
 front-same m q t (s ∷ ss) w r h cuts = by (t.moment == s.moment) refl where
-  by : (same : Bool) → (t.moment == s.moment) ≡ same → front m q (before_by same t s ss) ≡ w ++ front_by (s.moment == m) m r s ss
+  by : (same : Bool) → (t.moment == s.moment) ≡ same → front m q (before_by same t s ss) ≡ w ++
+      front_by (s.moment == m) m r s ss
   by true k =
       let e : (s.moment == m) ≡ true = grind (arith, nat_tests) in
       ap (λ (z : Bool). front_by z m q (record { moment = t.moment; bytes = t.byte ∷ s.bytes }) ss) h ∙
@@ -89,56 +92,65 @@ front-same m q t (s ∷ ss) w r h cuts = by (t.moment == s.moment) refl where
 piece_of : (m b : ℕ) (bs : List ℕ) → Piece
 piece_of m b bs = record { moment = m; bytes = b ∷ bs }
 
-abbrev step_by : (on : Bool) → Piece → Timed → List Timed → List ℕ
+abbrev step_by : (on : Bool) → Piece → TimedByte → List TimedByte → List ℕ
 step_by on p t ts =
     (if on then [] else written_piece p.moment p.bytes) ++
-    gathering (if on then record { moment = p.moment; bytes = p.bytes ++ t.byte ∷ [] } else record { moment = t.moment; bytes = t.byte ∷ [] }) ts
+    gathering (if on then record { moment = p.moment; bytes = p.bytes ++ t.byte ∷ [] } else record {
+      moment = t.moment;
+      bytes = t.byte ∷ [];
+    }) ts
 
-gathering-front : (m b : ℕ) (bs : List ℕ) (ts : List Timed) →
+gathering-front : (m b : ℕ) (bs : List ℕ) (ts : List TimedByte) →
     gathering (record { moment = m; bytes = b ∷ bs }) ts ≡ front m (b ∷ bs) (stretches ts)
 gathering-front m b bs [] = sym (append-nil (a_record m (b ∷ bs)))
 gathering-front m b bs (t ∷ ts) = by (t.moment == m) refl (nat_lt (length (b ∷ bs)) 255) refl
     (gathering-front m b (bs ++ t.byte ∷ []) ts) (λ n. gathering-front n t.byte [] ts) where
       by : (same : Bool) → (t.moment == m) ≡ same → (room : Bool) → nat_lt (length (b ∷ bs)) 255 ≡ room →
-          gathering (record { moment = m; bytes = b ∷ (bs ++ t.byte ∷ []) }) ts ≡ front m (b ∷ (bs ++ t.byte ∷ [])) (stretches ts) →
+          gathering (record { moment = m; bytes = b ∷ (bs ++ t.byte ∷ []) }) ts ≡ front m (b ∷ (bs ++ t.byte ∷ []))
+          (stretches ts) →
           ((n : ℕ) → gathering (record { moment = n; bytes = t.byte ∷ [] }) ts ≡ front n (t.byte ∷ []) (stretches ts)) →
-          step_by (same && room) (record { moment = m; bytes = b ∷ bs }) t ts ≡ front m (b ∷ bs) (before t (stretches ts))
+          step_by (same && room) (record { moment = m; bytes = b ∷ bs }) t ts ≡ front m (b ∷ bs)
+          (before t (stretches ts))
       by true h true r on new =
           on ∙ sym (front-same m (b ∷ bs) t (stretches ts) [] (b ∷ (bs ++ t.byte ∷ [])) h (λ cs.
-          ap (λ (z : Bool). flat_map (a_record m) (if z then pieces_from (b ∷ (bs ++ t.byte ∷ [])) cs else (b ∷ bs) ∷ pieces_from (t.byte ∷ []) cs)) r))
+          ap (λ (z : Bool). flat_map (a_record m) (if z then pieces_from (b ∷ (bs ++ t.byte ∷ [])) cs else (b ∷ bs) ∷
+          pieces_from (t.byte ∷ []) cs)) r))
       by true h false r on new =
           let e : t.moment ≡ m = same-number t.moment m h in
           ap (λ z. a_record m (b ∷ bs) ++ z) (new t.moment ∙ ap (λ n. front n (t.byte ∷ []) (stretches ts)) e) ∙
           sym (front-same m (b ∷ bs) t (stretches ts) (a_record m (b ∷ bs)) (t.byte ∷ []) h (λ cs.
-          ap (λ (z : Bool). flat_map (a_record m) (if z then pieces_from (b ∷ (bs ++ t.byte ∷ [])) cs else (b ∷ bs) ∷ pieces_from (t.byte ∷ []) cs)) r))
+          ap (λ (z : Bool). flat_map (a_record m) (if z then pieces_from (b ∷ (bs ++ t.byte ∷ [])) cs else (b ∷ bs) ∷
+          pieces_from (t.byte ∷ []) cs)) r))
       by false h room r on new =
           ap (λ z. a_record m (b ∷ bs) ++ z) (new t.moment ∙ sym (records-before t (stretches ts))) ∙
           (ap (λ z. z ++ flat_map records (before t (stretches ts))) (sym (append-nil (a_record m (b ∷ bs)))) ∙
           sym (front-other m (b ∷ bs) t (stretches ts) h))
 
-gathering-all : (ts : List Timed) → gathering no_piece ts ≡ flat_map records (stretches ts)
+gathering-all : (ts : List TimedByte) → gathering no_piece ts ≡ flat_map records (stretches ts)
 gathering-all [] = refl
 gathering-all (t ∷ ts) = by (t.moment == 0) refl where
-  by : (zero_too : Bool) → (t.moment == 0) ≡ zero_too → step_by (zero_too && nat_lt 0 255) no_piece t ts ≡ flat_map records (before t (stretches ts))
+  by : (zero_too : Bool) → (t.moment == 0) ≡ zero_too → step_by (zero_too && nat_lt 0 255) no_piece t ts ≡
+      flat_map records (before t (stretches ts))
   by true h =
       let e : 0 ≡ t.moment = sym (same-number t.moment 0 h) in
-      ap (λ n. gathering (record { moment = n; bytes = t.byte ∷ [] }) ts) e ∙ (gathering-front t.moment t.byte [] ts ∙ sym (records-before t (stretches ts)))
+      ap (λ n. gathering (record { moment = n; bytes = t.byte ∷ [] }) ts) e ∙ (gathering-front t.moment t.byte [] ts ∙
+      sym (records-before t (stretches ts)))
   by false h = gathering-front t.moment t.byte [] ts ∙ sym (records-before t (stretches ts))
 
 pub Gathers-nothing : Gathers no_piece [] []
 Gathers-nothing = record {
-  rest = λ more. ap behind_magic (records-bytes (stretches more) ∙ sym (gathering-all more));
+  rest = λ more. ap after_magic (records-bytes (stretches more) ∙ sym (gathering-all more));
 }
 
-pub Gathers-put : (p : Piece) (t : Timed) (ts : List Timed) (written : List ℕ) → Gathers p ts written →
+pub Gathers-put : (p : Piece) (t : TimedByte) (ts : List TimedByte) (written : List ℕ) → Gathers p ts written →
     Gathers (with_byte p t) (ts ++ t ∷ []) (written ++ ended_by p t)
 Gathers-put p t ts written h = record {
   rest = λ more.
       ap gathered (append_assoc ts (t ∷ []) more) ∙
       (h.rest (t ∷ more) ∙
-      ap behind_magic (sym (append_assoc written (ended_by p t) (gathering (with_byte p t) more))));
+      ap after_magic (sym (append_assoc written (ended_by p t) (gathering (with_byte p t) more))));
 }
 
-pub Gathers-end : (p : Piece) (ts : List Timed) (written : List ℕ) → Gathers p ts written →
-    gathered ts ≡ behind_magic (written ++ written_piece p.moment p.bytes)
+pub Gathers-end : (p : Piece) (ts : List TimedByte) (written : List ℕ) → Gathers p ts written →
+    gathered ts ≡ after_magic (written ++ written_piece p.moment p.bytes)
 Gathers-end p ts written h = ap gathered (sym (append-nil ts)) ∙ h.rest []

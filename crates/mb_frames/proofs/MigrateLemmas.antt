@@ -1,5 +1,6 @@
 -- A tape in the second form tells what the tape that it was made of tells.
-use Rattle.std.proofs.Common.{◌≡◌, ℕ, zero, suc, ◌+◌, ◌*◌, ◌-◌, ◌<◌, ◌≤◌, Bool, true, false, List, [], ◌∷◌, ◌++◌, length}
+use Rattle.std.proofs.Common.{◌≡◌, ℕ, zero, suc, ◌+◌, ◌*◌, ◌-◌, ◌<◌, ◌≤◌, Bool, true, false, List, [], ◌∷◌, ◌++◌}
+use Rattle.std.proofs.Common.{length}
 use Rattle.std.proofs.Common.{Option, Some, None, map, take, drop, flat_map, refl, sym, ◌∙◌, ap, subst, arith}
 use Rattle.std.proofs.Common.{append-nil, ◌⊎◌, inl, inr}
 use Rattle.std.specs.Prelude.{nat_lt, nat_le, ◌==◌, ◌&&◌, ◌||◌, not, if◌then◌else◌}
@@ -10,10 +11,12 @@ use Rattle.std.proofs.lemmas.Grind.{flat_map-append}
 use Rattle.std.proofs.lemmas.List.{length-take-le, length-drop}
 use Rattle.mb_frames.specs.Frames.{AreBytes}
 use Rattle.mb_frames.specs.Numbers.{number, number_from}
-use Rattle.mb_frames.specs.Tapes.{Record, RecordPart, RecordBegin, RecordByte, RecordEnd, Header, header, header_size}
-use Rattle.mb_frames.specs.Tapes.{header_of, header_fault, microseconds, most_milliseconds, magic, fit_magic, nothing}
-use Rattle.mb_frames.specs.Tapes.{Inside, Faulty, form_read, tape_parts, AreRight, record_parts, record_bytes, tape}
-use Rattle.mb_frames.specs.TapeSteps.{TapeState, begun, begin_by, parts_from, behind}
+use Rattle.mb_frames.specs.Tapes.{Record, RecordPart, RecordBegin, RecordByte, RecordEnd, RecordHeader, header}
+use Rattle.mb_frames.specs.Tapes.{header_size}
+use Rattle.mb_frames.specs.Tapes.{header_of, header_fault, microseconds, most_milliseconds, magic, all_fit_magic}
+use Rattle.mb_frames.specs.Tapes.{nothing}
+use Rattle.mb_frames.specs.Tapes.{Inside, Faulty, form_read, tape_parts, AreRecords, record_parts, record_bytes, tape}
+use Rattle.mb_frames.specs.TapeSteps.{TapeState, begun, begin_by, parts_from, tape_behind}
 use Rattle.mb_frames.specs.Migrated.{part_bytes, record_in_microseconds, tape2}
 use Rattle.mb_frames.specs.declared.tape.TapeFault.{TapeFault}
 use Rattle.mb_frames.specs.declared.tape.TapeFault.TheVariants as fault
@@ -53,7 +56,8 @@ number-below (b ∷ bs) n m a less =
 number-fits : (count : ℕ) (bs : List ℕ) → AreBytes bs → length bs ≡ count → number bs < most count
 number-fits count bs a is =
     let less : number bs < 1 * most (length bs) = number-below bs 0 1 a (omega arith) in
-    let same : 1 * most (length bs) ≡ most count = let e : most (length bs) ≡ most count = ap most is in omega (arith, e) in
+    let same : 1 * most (length bs) ≡ most count = let e : most (length bs) ≡ most count = ap most is in
+    omega (arith, e) in
     subst (λ (z : ℕ). number bs < z) same less
 
 header-fits : (second : Bool) (hs : List ℕ) → AreBytes hs → length hs ≡ header_size second →
@@ -69,10 +73,10 @@ header-fits false hs a is = (
 
 -- a header without a fault has none in microseconds
 
-abbrev in_microseconds : (second : Bool) → Header → Header
+abbrev in_microseconds : (second : Bool) → RecordHeader → RecordHeader
 in_microseconds second h = record { moment = microseconds second h.moment; track = h.track; len = h.len }
 
-abbrev fault_by : (back far none : Bool) → (last : ℕ) → Header → Option TapeFault
+abbrev fault_by : (back far none : Bool) → (last : ℕ) → RecordHeader → Option TapeFault
 fault_by back far none last h =
     if back then Some (fault.Back last h.moment)
     else (if far then Some (fault.Far h.moment) else (if none then Some fault.Zero else None))
@@ -85,16 +89,17 @@ near_by : (second : Bool) (m : ℕ) → second ≡ false → (not second && nat_
 near_by true m first f = absurd (true≢false first)
 near_by false m first f = grind (arith, nat_tests)
 
-record Passes (second : Bool) (last : ℕ) (h : Header) : Type 0 where
+record Passes (second : Bool) (last : ℕ) (h : RecordHeader) : Type 0 where
   rises : last ≤ h.moment
   near : second ≡ false → h.moment ≤ most_milliseconds
   some : 0 < h.len
 
-fault-free : (second : Bool) (last : ℕ) (h : Header) → header_fault second last h ≡ None → Passes second last h
+fault-free : (second : Bool) (last : ℕ) (h : RecordHeader) → header_fault second last h ≡ None → Passes second last h
 fault-free second last h free =
     by_tests (nat_lt h.moment last) (not second && nat_lt most_milliseconds h.moment) (h.len == 0) refl refl refl free
   where
-    by_tests : (back far none : Bool) → nat_lt h.moment last ≡ back → (not second && nat_lt most_milliseconds h.moment) ≡ far →
+    by_tests : (back far none : Bool) → nat_lt h.moment last ≡ back →
+        (not second && nat_lt most_milliseconds h.moment) ≡ far →
         (h.len == 0) ≡ none → fault_by back far none last h ≡ None → Passes second last h
     by_tests true far none b f n e = absurd (some≢none e)
     by_tests false true none b f n e = absurd (some≢none e)
@@ -119,7 +124,7 @@ below-most : (m : ℕ) → m < most 8 → m ≤ 18446744073709551615
 unfolding most
 below-most m less = omega (arith, less)
 
-no-fault-in-microseconds : (second : Bool) (last : ℕ) (h : Header) → h.moment < most 8 → Passes second last h →
+no-fault-in-microseconds : (second : Bool) (last : ℕ) (h : RecordHeader) → h.moment < most 8 → Passes second last h →
     header_fault true (microseconds second last) (in_microseconds second h) ≡ None
 no-fault-in-microseconds second last h fits p =
     no_fault true (microseconds second last) (in_microseconds second h)
@@ -157,7 +162,8 @@ same-nothing (place.Within (suc left)) second last track head is a = refl
 same-nothing (place.Broken f) second last track head is a = refl
 
 same-broken : (f : TapeFault) (second : Bool) (last track : ℕ) (head bs : List ℕ) →
-    parts_from (remade (place.Broken f) second last track) (again (parts_from (at (place.Broken f) second last track head) bs)) ≡
+    parts_from (remade (place.Broken f) second last track) (again (parts_from (at (place.Broken f) second last track
+    head) bs)) ≡
     parts_from (at (place.Broken f) second last track head) bs
 same-broken f second last track head bs =
     let none : parts_from (at (place.Broken f) second last track head) bs ≡ [] =
@@ -165,7 +171,8 @@ same-broken f second last track head bs =
     ap (λ ps. parts_from (remade (place.Broken f) second last track) (again ps)) none ∙ sym none
 
 -- a whole header
-same-headed : (second : Bool) (last track : ℕ) (hs bs : List ℕ) → AreBytes hs → length hs ≡ header_size second → Same bs →
+same-headed : (second : Bool) (last track : ℕ) (hs bs : List ℕ) → AreBytes hs → length hs ≡ header_size second →
+    Same bs →
     let t : TapeState = headed (at place.Header second last track []) hs in
     parts_from (remade place.Header second last track) (again (begin_by t.place t ++ parts_from t bs)) ≡
     begin_by t.place t ++ parts_from t bs
@@ -179,7 +186,8 @@ same-headed second last track hs bs a is same =
     target : TapeState
     target = remade place.Header second last track
 
-    by_fault : (h : Header) (f : Option TapeFault) → (h.moment < most 8) × (h.len < most 2) → (f ≡ None → Passes second last h) →
+    by_fault : (h : RecordHeader) (f : Option TapeFault) → (h.moment < most 8) × (h.len < most 2) →
+        (f ≡ None → Passes second last h) →
         let t : TapeState = begun source h f in
         parts_from target (again (begin_by t.place t ++ parts_from t bs)) ≡ begin_by t.place t ++ parts_from t bs
     by_fault h (Some f) fits passes =
@@ -191,16 +199,19 @@ same-headed second last track hs bs a is same =
         let told : List RecordPart = parts_from (begun source h None) bs in
         let head : List ℕ = header true m h.track h.len in
         let read : header_of true head ≡ in_microseconds second h =
-        header_is true m h.track h.len (microseconds-fit second h.moment fits.0 p.near) fits.1 (λ e. absurd (true≢false e)) in
+        header_is true m h.track h.len (microseconds-fit second h.moment fits.0 p.near) fits.1 (λ e.
+        absurd (true≢false e)) in
         let begins : headed target head ≡ begun target (in_microseconds second h) None =
-        ap (λ (x : Header). begun target x (header_fault true target.last x)) read ∙
+        ap (λ (x : RecordHeader). begun target x (header_fault true target.last x)) read ∙
         ap (begun target (in_microseconds second h)) (no-fault-in-microseconds second last h fits.0 p) in
         run_of target head (again told) (length-header true m h.track h.len) ∙
         (ap (λ (z : TapeState). begin_by z.place z ++ parts_from z (again told)) begins ∙
         ap (λ ps. RecordBegin m h.track h.len ∷ ps) (same (place.Within h.len) second h.moment h.track [] tt tt))
 
-same-header : (second : Bool) (last track : ℕ) (head : List ℕ) (b : ℕ) (bs : List ℕ) → AreBytes head → b < 256 → Same bs →
-    parts_from (remade place.Header second last track) (again (parts_from (at place.Header second last track head) (b ∷ bs))) ≡
+same-header : (second : Bool) (last track : ℕ) (head : List ℕ) (b : ℕ) (bs : List ℕ) → AreBytes head → b < 256 →
+    Same bs →
+    parts_from (remade place.Header second last track) (again (parts_from (at place.Header second last track head)
+    (b ∷ bs))) ≡
     parts_from (at place.Header second last track head) (b ∷ bs)
 same-header second last track head b bs a small same = by_length (length (head ++ b ∷ []) == header_size second) refl
   where
@@ -215,20 +226,24 @@ same-header second last track head b bs a small same = by_length (length (head +
         parts_from (remade place.Header second last track) (again (begin_by z.place z ++ parts_from z bs)) ≡
         begin_by z.place z ++ parts_from z bs
 
-    by_length : (whole : Bool) → (length (head ++ b ∷ []) == header_size second) ≡ whole → Goal (behind (at_header source head) b)
+    by_length : (whole : Bool) → (length (head ++ b ∷ []) == header_size second) ≡ whole →
+        Goal (tape_behind (at_header source head) b)
     by_length true e =
         subst Goal (sym (behind_is source head b true e))
         (same-headed second last track (head ++ b ∷ []) bs more (grind (arith, nat_tests)) same)
     by_length false e =
-        subst Goal (sym (behind_is source head b false e)) (same place.Header second last track (head ++ b ∷ []) tt more)
+        subst Goal (sym (behind_is source head b false e)) (same place.Header second last track (head ++ b ∷ []) tt
+        more)
 
 same-more : (b : ℕ) (bs : List ℕ) → b < 256 → Same bs → Same (b ∷ bs)
 same-more b bs small same place.Magic second last track head is a = absurd is
-same-more b bs small same place.Header second last track head is a = same-header second last track head b bs a small same
+same-more b bs small same place.Header second last track head is a = same-header second last track head b bs a small
+    same
 same-more b bs small same (place.Within zero) second last track head is a =
     ap (λ ps. parts_from (remade (place.Within 0) second last track) (again ps))
     (end_parts (at place.Header second last track head) (b ∷ bs)) ∙
-    (end_parts (remade place.Header second last track) (again (parts_from (at place.Header second last track head) (b ∷ bs))) ∙
+    (end_parts (remade place.Header second last track) (again (parts_from (at place.Header second last track head)
+    (b ∷ bs))) ∙
     (ap (λ ps. RecordEnd ∷ ps) (same-header second last track head b bs a small same) ∙
     sym (end_parts (at place.Header second last track head) (b ∷ bs))))
 same-more b bs small same (place.Within (suc left)) second last track head is a =
@@ -252,12 +267,14 @@ four-is : (m b t form w x y z : ℕ) → (m == w) ≡ true → (b == x) ≡ true
 four-is m b t form w x y z p q r e =
     λ i. same-number m w p i ∷ same-number b x q i ∷ same-number t y r i ∷ same-number form z e i ∷ []
 
-which-magic : (m b t form : ℕ) → fit_magic 0 (m ∷ b ∷ t ∷ form ∷ []) ≡ true → (second : Bool) × IsMagic m b t form second
+which-magic : (m b t form : ℕ) → all_fit_magic 0 (m ∷ b ∷ t ∷ form ∷ []) ≡ true → (second : Bool) × IsMagic m b t form
+    second
 which-magic m b t form fits =
     by (m == 0x4d) (b == 0x42) (t == 0x54) (form == 0x31) (form == 0x32) refl refl refl refl refl fits
   where
     by : (one two three first second : Bool) → (m == 0x4d) ≡ one → (b == 0x42) ≡ two → (t == 0x54) ≡ three →
-        (form == 0x31) ≡ first → (form == 0x32) ≡ second → (one && (two && (three && ((first || second) && true)))) ≡ true →
+        (form == 0x31) ≡ first → (form == 0x32) ≡ second → (one && (two && (three && ((first || second) && true)))) ≡
+        true →
         (second : Bool) × IsMagic m b t form second
     by false two three first second m b t f g e = absurd (false≢true e)
     by true false three first second m b t f g e = absurd (false≢true e)
@@ -270,18 +287,21 @@ magic-told : (second : Bool) (more : List ℕ) → tape_parts (magic second ++ m
 magic-told second more = sym (tape-reads (magic second ++ more)).parts ∙ magic_parts second more
 
 -- what a tape whose magic is whole is in the second form, and one whose magic isn't
-whole-magic : (bytes rest : List ℕ) → nat_le 4 (length bytes) ≡ true → fit_magic 0 (take 4 bytes) ≡ true →
+whole-magic : (bytes rest : List ℕ) → nat_le 4 (length bytes) ≡ true → all_fit_magic 0 (take 4 bytes) ≡ true →
     again (tape_parts bytes) ≡ rest → tape2 bytes ≡ magic true ++ rest
 whole-magic bytes rest long fits told =
-    ap (λ (z : Bool). (if z && fit_magic 0 (take 4 bytes) then magic true else []) ++ again (tape_parts bytes)) long ∙
-    (ap (λ (z : Bool). (if z then magic true else []) ++ again (tape_parts bytes)) fits ∙ ap (λ z. magic true ++ z) told)
+    ap (λ (z : Bool). (if z && all_fit_magic 0 (take 4 bytes) then magic true else []) ++ again (tape_parts bytes))
+    long ∙
+    (ap (λ (z : Bool). (if z then magic true else []) ++ again (tape_parts bytes)) fits ∙
+    ap (λ z. magic true ++ z) told)
 
-unwhole : (bytes : List ℕ) → fit_magic 0 (take 4 bytes) ≡ false → tape_parts bytes ≡ [] → tape2 bytes ≡ []
+unwhole : (bytes : List ℕ) → all_fit_magic 0 (take 4 bytes) ≡ false → tape_parts bytes ≡ [] → tape2 bytes ≡ []
 unwhole bytes misfits none =
     ap (λ (z : Bool). (if nat_le 4 (length bytes) && z then magic true else []) ++ again (tape_parts bytes)) misfits ∙
     (by (nat_le 4 (length bytes)) ∙ ap again none)
   where
-    by : (long : Bool) → (if long && false then magic true else []) ++ again (tape_parts bytes) ≡ again (tape_parts bytes)
+    by : (long : Bool) → (if long && false then magic true else []) ++ again (tape_parts bytes) ≡
+        again (tape_parts bytes)
     by true = refl
     by false = refl
 
@@ -290,7 +310,7 @@ unread-parts : (fits : Bool) → (if fits then nothing Inside else nothing (Faul
 unread-parts true = refl
 unread-parts false = refl
 
-misfit-parts : (bytes : List ℕ) → fit_magic 0 (take 4 bytes) ≡ false → tape_parts bytes ≡ []
+misfit-parts : (bytes : List ℕ) → all_fit_magic 0 (take 4 bytes) ≡ false → tape_parts bytes ≡ []
 misfit-parts bytes misfits =
     ap (λ (z : Bool). (if z then form_read (drop 3 bytes) else nothing (Faulty fault.Magic)).parts) misfits
 
@@ -301,8 +321,10 @@ remade-magic second more =
   where
     by : (second : Bool) → tape_parts (magic second ++ more) ≡ parts_from (behind_form second) more →
         tape2 (magic second ++ more) ≡ magic true ++ again (parts_from (behind_form second) more)
-    by true told = whole-magic (magic true ++ more) (again (parts_from (behind_form true) more)) (grind (arith, nat_tests)) refl (ap again told)
-    by false told = whole-magic (magic false ++ more) (again (parts_from (behind_form false) more)) (grind (arith, nat_tests)) refl (ap again told)
+    by true told = whole-magic (magic true ++ more) (again (parts_from (behind_form true) more))
+        (grind (arith, nat_tests)) refl (ap again told)
+    by false told = whole-magic (magic false ++ more) (again (parts_from (behind_form false) more))
+        (grind (arith, nat_tests)) refl (ap again told)
 
 behind-same : (second : Bool) → remade place.Header second 0 0 ≡ behind_form true
 behind-same true = refl
@@ -331,15 +353,15 @@ unread bytes none is = record { parts = none; remade = is ∙ ap again none }
 
 begins : (bytes : List ℕ) → AreBytes bytes → Begins bytes ⊎ Silent bytes
 begins [] a = inr (unread [] refl refl)
-begins (m ∷ []) a = inr (unread (m ∷ []) (unread-parts (fit_magic 0 (m ∷ []))) refl)
-begins (m ∷ b ∷ []) a = inr (unread (m ∷ b ∷ []) (unread-parts (fit_magic 0 (m ∷ b ∷ []))) refl)
-begins (m ∷ b ∷ t ∷ []) a = inr (unread (m ∷ b ∷ t ∷ []) (unread-parts (fit_magic 0 (m ∷ b ∷ t ∷ []))) refl)
-begins (m ∷ b ∷ t ∷ form ∷ more) a = by (fit_magic 0 (m ∷ b ∷ t ∷ form ∷ [])) refl
+begins (m ∷ []) a = inr (unread (m ∷ []) (unread-parts (all_fit_magic 0 (m ∷ []))) refl)
+begins (m ∷ b ∷ []) a = inr (unread (m ∷ b ∷ []) (unread-parts (all_fit_magic 0 (m ∷ b ∷ []))) refl)
+begins (m ∷ b ∷ t ∷ []) a = inr (unread (m ∷ b ∷ t ∷ []) (unread-parts (all_fit_magic 0 (m ∷ b ∷ t ∷ []))) refl)
+begins (m ∷ b ∷ t ∷ form ∷ more) a = by (all_fit_magic 0 (m ∷ b ∷ t ∷ form ∷ [])) refl
   where
     bytes : List ℕ
     bytes = m ∷ b ∷ t ∷ form ∷ more
 
-    by : (fits : Bool) → fit_magic 0 (m ∷ b ∷ t ∷ form ∷ []) ≡ fits → Begins bytes ⊎ Silent bytes
+    by : (fits : Bool) → all_fit_magic 0 (m ∷ b ∷ t ∷ form ∷ []) ≡ fits → Begins bytes ⊎ Silent bytes
     by true fits =
         let w = which-magic m b t form fits in
         inl (record { second = w.0; more = more; is = ap (λ z. z ++ more) w.1; bytes_are = a.1.1.1.1 })
@@ -385,7 +407,7 @@ again-records second (r ∷ rs) =
     (ap (λ z. (head ++ z) ++ again (flat_map (record_parts second) rs)) (again-bytes r.bytes) ∙
     ap (λ z. (head ++ r.bytes) ++ z) (again-records second rs))
 
-pub records-again : (second : Bool) (rs : List Record) → AreRight second 0 rs →
+pub records-again : (second : Bool) (rs : List Record) → AreRecords second 0 rs →
     tape2 (tape second rs) ≡ tape true (map (record_in_microseconds second) rs)
 records-again second rs are =
     let bytes : List ℕ = flat_map (record_bytes second) rs in

@@ -24,17 +24,21 @@ abbrev ends : Bool → List FramePart
 ends t = if t then FrameEnd ∷ [] else []
 
 rest_parts-cut : (left : ℕ) (bytes : List ℕ) →
-    rest_parts left bytes ≡ map FrameByte (take left bytes) ++ (ends (length (take left bytes) == left) ++ counted_parts (drop left bytes))
+    rest_parts left bytes ≡ map FrameByte (take left bytes) ++ (ends (length (take left bytes) == left) ++
+    counted_parts (drop left bytes))
 rest_parts-cut zero bytes = rest_parts-zero bytes
 rest_parts-cut (suc left) [] =
     let short : (0 == suc left) ≡ false = grind (arith, nat_tests) in
     ap (λ t. ends t ++ []) (sym short)
 rest_parts-cut (suc left) (b ∷ bytes) =
-    let same : (length (take left bytes) == left) ≡ (suc (length (take left bytes)) == suc left) = grind (arith, nat_tests) in
+    let same : (length (take left bytes) == left) ≡ (suc (length (take left bytes)) == suc left) =
+    grind (arith, nat_tests) in
     ap (λ z. FrameByte b ∷ z)
-    (rest_parts-cut left bytes ∙ ap (λ t. map FrameByte (take left bytes) ++ (ends t ++ counted_parts (drop left bytes))) same)
+    (rest_parts-cut left bytes ∙ ap (λ t. map FrameByte (take left bytes) ++
+    (ends t ++ counted_parts (drop left bytes))) same)
 
-by_most : (most : ℕ) (bytes : List ℕ) → length bytes ≤ most → flat_map framed_parts (framed_from most bytes) ≡ counted_parts bytes
+by_most : (most : ℕ) (bytes : List ℕ) → length bytes ≤ most → flat_map framed_parts (framed_from most bytes) ≡
+    counted_parts bytes
 by_most zero [] few = refl
 by_most zero (b ∷ bytes) few = absurd (omega (arith, few))
 by_most (suc most) [] few = refl
@@ -44,7 +48,8 @@ by_most (suc most) (high ∷ low ∷ bytes) few =
     let content = map FrameByte (take n bytes) in
     let end = ends (length (take n bytes) == n) in
     let later = flat_map framed_parts (framed_from most (drop n bytes)) in
-    let rest : later ≡ counted_parts (drop n bytes) = by_most most (drop n bytes) (omega (arith, few, length-drop n bytes)) in
+    let rest : later ≡ counted_parts (drop n bytes) = by_most most (drop n bytes)
+    (omega (arith, few, length-drop n bytes)) in
     ap (λ z. FrameBegin n ∷ z)
     (append_assoc content end later ∙ (ap (λ z. content ++ (end ++ z)) rest ∙ sym (rest_parts-cut n bytes)))
 

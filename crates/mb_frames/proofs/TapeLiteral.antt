@@ -5,10 +5,11 @@ use Rattle.std.proofs.Common.{append-nil, length-append}
 use Rattle.std.specs.Prelude.{nat_lt, ◌==◌, ◌&&◌, not, if◌then◌else◌}
 use Rattle.std.proofs.lemmas.Bool.Decides.{nat_tests}
 use Rattle.std.proofs.lemmas.List.{take-append-drop, length-take-le, length-drop}
-use Rattle.mb_frames.specs.Tapes.{RecordBegin, RecordByte, RecordEnd, Header, TapeRead, TapeEnd, Whole, Inside}
+use Rattle.mb_frames.specs.Tapes.{RecordBegin, RecordByte, RecordEnd, RecordHeader, TapeRead, TapeEnd, Whole, Inside}
 use Rattle.mb_frames.specs.Tapes.{Faulty, nothing, behind_parts, content_read, record_read, records_read, form_read}
-use Rattle.mb_frames.specs.Tapes.{tape_read, fit_magic, fits_magic, microseconds, header_size, header_of, header_fault}
-use Rattle.mb_frames.specs.TapeSteps.{TapeState, fresh, begun, begin_by, parts_from, after, behind, ending_at}
+use Rattle.mb_frames.specs.Tapes.{tape_read, all_fit_magic, fits_magic, microseconds, header_size, header_of}
+use Rattle.mb_frames.specs.Tapes.{header_fault}
+use Rattle.mb_frames.specs.TapeSteps.{TapeState, fresh, begun, begin_by, parts_from, after, tape_behind, ending_at}
 use Rattle.mb_frames.specs.TapeSteps.{ending_from}
 use Rattle.mb_frames.specs.TapeReading.{TapeStands}
 use Rattle.mb_frames.specs.declared.tape.TapeFault.{TapeFault}
@@ -23,7 +24,8 @@ pub record Reads (t : TapeState) (bytes : List ℕ) (read : TapeRead) : Type 0 w
   pub ending : ending_from t bytes ≡ read.ending
 
 -- behind a fault nothing is told
-pub broken_parts : (f : TapeFault) (t : TapeState) (bytes : List ℕ) → parts_from (record t { place = place.Broken f }) bytes ≡ []
+pub broken_parts : (f : TapeFault) (t : TapeState) (bytes : List ℕ) → parts_from (record t { place = place.Broken f })
+    bytes ≡ []
 broken_parts f t [] = refl
 broken_parts f t (b ∷ bs) = broken_parts f t bs
 
@@ -103,7 +105,8 @@ content-reads t len bytes others rest = by_length (nat_lt (length bytes) len) re
               ap (parts_from (inside t len)) (sym joined) ∙
               (within_parts len (inside t len) (take len bytes) (drop len bytes) 0 few ∙
               (ap (λ ps. map RecordByte (take len bytes) ++ ps) (end_parts (inside t len) (drop len bytes)) ∙
-              (sym (append_assoc (map RecordByte (take len bytes)) (RecordEnd ∷ []) (parts_from (at_header t []) (drop len bytes))) ∙
+              (sym (append_assoc (map RecordByte (take len bytes)) (RecordEnd ∷ []) (parts_from (at_header t [])
+              (drop len bytes))) ∙
               ap (λ ps. (map RecordByte (take len bytes) ++ RecordEnd ∷ []) ++ ps) rest.parts)));
           ending =
               ap (ending_from (inside t len)) (sym joined) ∙
@@ -113,27 +116,30 @@ content-reads t len bytes others rest = by_length (nat_lt (length bytes) len) re
 
 -- a whole header, and what follows it
 
-abbrev behind_header : TapeState → Header → TapeState
+abbrev behind_header : TapeState → RecordHeader → TapeState
 behind_header t h = record t { place = place.Header; head = []; last = h.moment; track = h.track }
 
 record-reads : (t : TapeState) (head bytes : List ℕ) (others : TapeRead) → length head ≡ header_size t.second →
     Reads (behind_header t (header_of t.second head)) (drop (header_of t.second head).len bytes) others →
-    Reads (at_header t []) (head ++ bytes) (record_read t.second (header_fault t.second t.last (header_of t.second head)) (header_of t.second head) bytes others)
+    Reads (at_header t []) (head ++ bytes) (record_read t.second (header_fault t.second t.last
+    (header_of t.second head)) (header_of t.second head) bytes others)
 record-reads t head bytes others is rest =
-    let h : Header = header_of t.second head in
+    let h : RecordHeader = header_of t.second head in
     by_fault h (header_fault t.second t.last h) refl rest
   where
-    run : (f : Option TapeFault) (h : Header) → headed t head ≡ begun (at_header t []) h f →
+    run : (f : Option TapeFault) (h : RecordHeader) → headed t head ≡ begun (at_header t []) h f →
         parts_from (at_header t []) (head ++ bytes) ≡
-        begin_by (begun (at_header t []) h f).place (begun (at_header t []) h f) ++ parts_from (begun (at_header t []) h f) bytes
+        begin_by (begun (at_header t []) h f).place (begun (at_header t []) h f) ++
+        parts_from (begun (at_header t []) h f) bytes
     run f h e = run_of t head bytes is ∙ ap (λ (z : TapeState). begin_by z.place z ++ parts_from z bytes) e
 
-    end : (f : Option TapeFault) (h : Header) → headed t head ≡ begun (at_header t []) h f →
+    end : (f : Option TapeFault) (h : RecordHeader) → headed t head ≡ begun (at_header t []) h f →
         ending_from (at_header t []) (head ++ bytes) ≡ ending_from (begun (at_header t []) h f) bytes
     end f h e = ap ending_at (after_of t head bytes is) ∙ ap (λ (z : TapeState). ending_from z bytes) e
 
-    by_fault : (h : Header) (f : Option TapeFault) → headed t head ≡ begun (at_header t []) h f →
-        Reads (behind_header t h) (drop h.len bytes) others → Reads (at_header t []) (head ++ bytes) (record_read t.second f h bytes others)
+    by_fault : (h : RecordHeader) (f : Option TapeFault) → headed t head ≡ begun (at_header t []) h f →
+        Reads (behind_header t h) (drop h.len bytes) others → Reads (at_header t []) (head ++ bytes)
+        (record_read t.second f h bytes others)
     by_fault h (Some f) e rest =
         let stays = broken-reads f (at_header t []) bytes in
         record { parts = run (Some f) h e ∙ stays.parts; ending = end (Some f) h e ∙ stays.ending }
@@ -159,7 +165,7 @@ records-reads (suc most) second last track (b ∷ bs) few =
     size : ℕ
     size = header_size second
 
-    h : Header
+    h : RecordHeader
     h = header_of second (take size (b ∷ bs))
 
     behind_it : List ℕ
@@ -168,7 +174,8 @@ records-reads (suc most) second last track (b ∷ bs) few =
     read_by : Bool → TapeRead
     read_by short =
         if short then nothing Inside
-        else record_read second (header_fault second last h) h behind_it (records_read most second h.moment (drop h.len behind_it))
+        else record_read second (header_fault second last h) h behind_it (records_read most second h.moment
+        (drop h.len behind_it))
 
     at_least : (second : Bool) → 1 ≤ header_size second
     at_least true = omega arith
@@ -177,7 +184,8 @@ records-reads (suc most) second last track (b ∷ bs) few =
     Others : Type 0
     Others =
         length (drop h.len behind_it) ≤ most →
-        Reads (between second h.moment h.track) (drop h.len behind_it) (records_read most second h.moment (drop h.len behind_it))
+        Reads (between second h.moment h.track) (drop h.len behind_it) (records_read most second h.moment
+        (drop h.len behind_it))
 
     by_length : (short : Bool) → nat_lt (length (b ∷ bs)) size ≡ short → Others →
         Reads (between second last track) (b ∷ bs) (read_by short)
@@ -206,7 +214,7 @@ behind_tests fits last head byte =
     else (if last then between (byte == 0x32) 0 0 else in_magic (head ++ byte ∷ []))
 
 behind_in_magic : (fits last : Bool) (at : ℕ) (head : List ℕ) (byte : ℕ) → length head ≡ at →
-    fits_magic at byte ≡ fits → (at == 3) ≡ last → behind (in_magic head) byte ≡ behind_tests fits last head byte
+    fits_magic at byte ≡ fits → (at == 3) ≡ last → tape_behind (in_magic head) byte ≡ behind_tests fits last head byte
 behind_in_magic fits last at head byte is f l =
     ap (λ n. behind_tests (fits_magic n byte) (n == 3) head byte) is ∙
     (ap (λ (z : Bool). behind_tests z (at == 3) head byte) f ∙ ap (λ (z : Bool). behind_tests fits z head byte) l)
@@ -214,7 +222,7 @@ behind_in_magic fits last at head byte is f l =
 -- the magic's bytes from a place on, so many before its last
 abbrev magic_read : (left at : ℕ) → List ℕ → TapeRead
 magic_read left at bytes =
-    if fit_magic at (take (suc left) bytes) then form_read (drop left bytes) else nothing (Faulty fault.Magic)
+    if all_fit_magic at (take (suc left) bytes) then form_read (drop left bytes) else nothing (Faulty fault.Magic)
 
 magic_step : (left at : ℕ) (head : List ℕ) → length head ≡ at → (at == 3) ≡ false →
     ((b : ℕ) (bs : List ℕ) → Reads (in_magic (head ++ b ∷ [])) bs (magic_read left (suc at) bs)) →
@@ -223,16 +231,18 @@ magic_step left at head is inner next [] = record { parts = refl; ending = refl 
 magic_step left at head is inner next (b ∷ bs) = by (fits_magic at b) refl
   where
     by : (fits : Bool) → fits_magic at b ≡ fits → Reads (in_magic head) (b ∷ bs)
-        (if fits && fit_magic (suc at) (take (suc left) bs) then form_read (drop left bs) else nothing (Faulty fault.Magic))
+        (if fits && all_fit_magic (suc at) (take (suc left) bs) then form_read (drop left bs) else
+        nothing (Faulty fault.Magic))
     by true f =
-        let e : behind (in_magic head) b ≡ in_magic (head ++ b ∷ []) = behind_in_magic true false at head b is f inner in
+        let e : tape_behind (in_magic head) b ≡ in_magic (head ++ b ∷ []) = behind_in_magic true false at head b is f
+        inner in
         let n = next b bs in
         record {
           parts = ap (λ (z : TapeState). parts_from z bs) e ∙ n.parts;
           ending = ap (λ (z : TapeState). ending_from z bs) e ∙ n.ending;
         }
     by false f =
-        let e : behind (in_magic head) b ≡ no_magic head = behind_in_magic false false at head b is f inner in
+        let e : tape_behind (in_magic head) b ≡ no_magic head = behind_in_magic false false at head b is f inner in
         let n = broken-reads fault.Magic (in_magic head) bs in
         record {
           parts = ap (λ (z : TapeState). parts_from z bs) e ∙ n.parts;
@@ -246,14 +256,15 @@ magic_last head is (b ∷ bs) = by (fits_magic 3 b) refl
     by : (fits : Bool) → fits_magic 3 b ≡ fits → Reads (in_magic head) (b ∷ bs)
         (if fits && true then form_read (b ∷ bs) else nothing (Faulty fault.Magic))
     by true f =
-        let e : behind (in_magic head) b ≡ between (b == 0x32) 0 0 = behind_in_magic true true 3 head b is f refl in
+        let e : tape_behind (in_magic head) b ≡ between (b == 0x32) 0 0 = behind_in_magic true true 3 head b is f
+        refl in
         let n = records-reads (length bs) (b == 0x32) 0 0 bs (omega arith) in
         record {
           parts = ap (λ (z : TapeState). parts_from z bs) e ∙ n.parts;
           ending = ap (λ (z : TapeState). ending_from z bs) e ∙ n.ending;
         }
     by false f =
-        let e : behind (in_magic head) b ≡ no_magic head = behind_in_magic false true 3 head b is f refl in
+        let e : tape_behind (in_magic head) b ≡ no_magic head = behind_in_magic false true 3 head b is f refl in
         let n = broken-reads fault.Magic (in_magic head) bs in
         record {
           parts = ap (λ (z : TapeState). parts_from z bs) e ∙ n.parts;

@@ -5,11 +5,11 @@
 --   tape2 bytes                          the same tape in the second form
 --   record_in_microseconds second r      a record of a tape of either form, as the second has it
 use Rattle.std.specs.Prelude.{ℕ, Bool, true, ◌&&◌, nat_le, if◌then◌else◌, List, [], ◌∷◌, ◌++◌, length, take, flat_map}
-use Rattle.mb_frames.specs.Tapes.{Record, RecordPart, RecordBegin, RecordByte, RecordEnd, fit_magic, magic, header}
+use Rattle.mb_frames.specs.Tapes.{Record, RecordPart, RecordBegin, RecordByte, RecordEnd, all_fit_magic, magic, header}
 use Rattle.mb_frames.specs.Tapes.{microseconds, tape_parts}
 
 abbrev pub magic_is_whole : List ℕ → Bool
-magic_is_whole bytes = nat_le 4 (length bytes) && fit_magic 0 (take 4 bytes)
+magic_is_whole bytes = nat_le 4 (length bytes) && all_fit_magic 0 (take 4 bytes)
 
 -- a part of a record in the second form
 abbrev pub part_bytes : RecordPart → List ℕ

@@ -2,7 +2,7 @@
 --
 --   TapeState                    where a tape stands
 --   fresh                        before its first byte
---   behind t byte                where it stands behind one more byte
+--   tape_behind t byte                where it stands behind one more byte
 --   parts_at t byte              what this byte tells
 --   after t bytes                where it stands behind these, and the end of a record told
 --   parts_from t bytes           what they tell
@@ -11,7 +11,7 @@
 --   behind_records second rs     where a tape stands behind these records
 use Rattle.std.specs.Prelude.{ℕ, zero, suc, ◌-◌, ◌==◌, Bool, false, not, if◌then◌else◌, List, [], ◌∷◌, ◌++◌}
 use Rattle.std.specs.Prelude.{length, Option, Some, None}
-use Rattle.mb_frames.specs.Tapes.{Record, RecordPart, RecordBegin, RecordByte, RecordEnd, Header, header_size}
+use Rattle.mb_frames.specs.Tapes.{Record, RecordPart, RecordBegin, RecordByte, RecordEnd, RecordHeader, header_size}
 use Rattle.mb_frames.specs.Tapes.{header_of, header_fault, fits_magic, microseconds, TapeEnd, Whole, Inside, Faulty}
 use Rattle.mb_frames.specs.declared.tape.TapeFault.{TapeFault}
 use Rattle.mb_frames.specs.declared.tape.TapeFault.TheVariants as fault
@@ -30,14 +30,14 @@ pub record TapeState : Type 0 where
 abbrev pub fresh : TapeState
 fresh = record { place = place.Magic; head = []; second = false; last = 0; track = 0 }
 
-abbrev pub behind_magic : TapeState → (byte : ℕ) → TapeState
-behind_magic t byte =
+abbrev pub magic_step : TapeState → (byte : ℕ) → TapeState
+magic_step t byte =
     if not (fits_magic (length t.head) byte) then record t { place = place.Broken fault.Magic }
     else (if length t.head == 3 then record t { place = place.Header; head = []; second = byte == 0x32 }
     else record t { head = t.head ++ byte ∷ [] })
 
 -- behind a whole header
-abbrev pub begun : TapeState → Header → Option TapeFault → TapeState
+abbrev pub begun : TapeState → RecordHeader → Option TapeFault → TapeState
 begun t h (Some f) = record t { place = place.Broken f; head = [] }
 begun t h None = record t { place = place.Within h.len; head = []; last = h.moment; track = h.track }
 
@@ -47,15 +47,15 @@ behind_head t head =
     begun t (header_of t.second head) (header_fault t.second t.last (header_of t.second head))
     else record t { head = head }
 
-abbrev pub behind_by : Place → TapeState → (byte : ℕ) → TapeState
-behind_by place.Magic t byte = behind_magic t byte
-behind_by place.Header t byte = behind_head t (t.head ++ byte ∷ [])
-behind_by (place.Within left) t byte = record t { place = place.Within (left - 1) }
-behind_by (place.Broken f) t byte = t
+abbrev pub tape_behind_by : Place → TapeState → (byte : ℕ) → TapeState
+tape_behind_by place.Magic t byte = magic_step t byte
+tape_behind_by place.Header t byte = behind_head t (t.head ++ byte ∷ [])
+tape_behind_by (place.Within left) t byte = record t { place = place.Within (left - 1) }
+tape_behind_by (place.Broken f) t byte = t
 
 -- where it stands behind one more byte
-abbrev pub behind : TapeState → (byte : ℕ) → TapeState
-behind t byte = behind_by t.place t byte
+abbrev pub tape_behind : TapeState → (byte : ℕ) → TapeState
+tape_behind t byte = tape_behind_by t.place t byte
 
 -- a record whose header is whole
 abbrev pub begin_by : Place → TapeState → List RecordPart
@@ -66,7 +66,7 @@ begin_by (place.Broken f) t = []
 
 abbrev pub parts_by : Place → TapeState → (byte : ℕ) → List RecordPart
 parts_by place.Magic t byte = []
-parts_by place.Header t byte = begin_by (behind t byte).place (behind t byte)
+parts_by place.Header t byte = begin_by (tape_behind t byte).place (tape_behind t byte)
 parts_by (place.Within left) t byte = RecordByte byte ∷ []
 parts_by (place.Broken f) t byte = []
 
@@ -94,11 +94,11 @@ rested t = record t { place = rest_by t.place }
 
 abbrev pub after : TapeState → List ℕ → TapeState
 after t [] = rested t
-after t (b ∷ bs) = after (behind (rested t) b) bs
+after t (b ∷ bs) = after (tape_behind (rested t) b) bs
 
 abbrev pub parts_from : TapeState → List ℕ → List RecordPart
 parts_from t [] = end_by t.place
-parts_from t (b ∷ bs) = end_by t.place ++ (parts_at (rested t) b ++ parts_from (behind (rested t) b) bs)
+parts_from t (b ∷ bs) = end_by t.place ++ (parts_at (rested t) b ++ parts_from (tape_behind (rested t) b) bs)
 
 abbrev pub ending_by : Place → (head : ℕ) → TapeEnd
 ending_by place.Magic head = Inside

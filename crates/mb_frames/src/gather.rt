@@ -2,8 +2,8 @@
 
 ghost use Rattle.std.specs.Prelude.{◌≡◌, ◌+◌, ◌≤◌, ℕ, List, [], ◌∷◌, ◌++◌, length};
 ghost use Rattle.arrayvec.specs.ArrayVec.{array_vec_len};
-ghost use Rattle.mb_frames.specs.Gathered.{Timed, gathered};
-ghost use Rattle.mb_frames.specs.Gathering.{Gathers, behind_magic, ended_by, no_piece, with_byte, written_piece};
+ghost use Rattle.mb_frames.specs.Gathered.{TimedByte, gathered};
+ghost use Rattle.mb_frames.specs.Gathering.{Gathers, after_magic, ended_by, no_piece, with_byte, written_piece};
 
 use crate::write_header::put_header;
 use arrayvec::ArrayVec;
@@ -46,7 +46,7 @@ impl Gather {
         ensures piece { self.new ≡ with_byte self.old (record { moment = moment; byte = byte }) }
         ensures written { out.new.items ≡
             out.old.items ++ ended_by self.old (record { moment = moment; byte = byte }) }
-        ensures gathers { (given : List Timed) (written : List ℕ) → Gathers self.old given written →
+        ensures gathers { (given : List TimedByte) (written : List ℕ) → Gathers self.old given written →
             Gathers self.new (given ++ (record { moment = moment; byte = byte }) ∷ [])
             (written ++ ended_by self.old (record { moment = moment; byte = byte })) }
         ensures len { array_vec_len out.new ≤ array_vec_len out.old + 266 }
@@ -64,8 +64,8 @@ impl Gather {
         requires room { array_vec_len out.old + 266 ≤ 1024 }
         ensures piece { self.new ≡ no_piece }
         ensures written { out.new.items ≡ out.old.items ++ written_piece self.old.moment self.old.bytes }
-        ensures all { (given : List Timed) (written : List ℕ) → Gathers self.old given written →
-            gathered given ≡ behind_magic (written ++ written_piece self.old.moment self.old.bytes) }
+        ensures all { (given : List TimedByte) (written : List ℕ) → Gathers self.old given written →
+            gathered given ≡ after_magic (written ++ written_piece self.old.moment self.old.bytes) }
         ensures len { array_vec_len out.new ≤ array_vec_len out.old + 266 }
     {
         put_piece(self.moment, self.bytes.as_slice(), out);

@@ -5,7 +5,8 @@ ghost use Rattle.mb_frames.specs.Frames.{AreBytes, Cut, FramePart, IsUnfinished,
 ghost use Rattle.mb_frames.specs.Frames.{unfinished_parts};
 ghost use Rattle.mb_frames.specs.Counting.{counted_parts};
 ghost use Rattle.mb_frames.specs.Reading.{IsWhole, Place, Stands, from, is_at_end};
-ghost use Rattle.mb_frames.specs.Tapes.{AreRight, Record, RecordPart, Whole, record_parts, tape, tape_parts, tape_read};
+ghost use Rattle.mb_frames.specs.Tapes.{AreRecords, Record, RecordPart, Whole, record_parts, tape, tape_parts};
+ghost use Rattle.mb_frames.specs.Tapes.{tape_read};
 ghost use Rattle.mb_frames.specs.TapeSteps.{TapeState, behind_records, ending_from, fresh, parts_from};
 ghost use Rattle.mb_frames.specs.TapeReading.{TapeStands};
 ghost use Rattle.mb_frames.specs.Migrated.{record_in_microseconds, tape2};
@@ -51,12 +52,12 @@ pub fn tapes_by_steps()
 
 /// A tape of right records has their parts, is whole and has no fault, and whatever follows is read behind them.
 pub fn tapes_are_records()
-    ensures parts { (second : Bool) (records : List Record) (more : List ℕ) → AreRight second 0 records →
+    ensures parts { (second : Bool) (records : List Record) (more : List ℕ) → AreRecords second 0 records →
         tape_parts (tape second records ++ more) ≡
         flat_map (record_parts second) records ++ parts_from (behind_records second records) more }
-    ensures ending { (second : Bool) (records : List Record) (more : List ℕ) → AreRight second 0 records →
+    ensures ending { (second : Bool) (records : List Record) (more : List ℕ) → AreRecords second 0 records →
         (tape_read (tape second records ++ more)).ending ≡ ending_from (behind_records second records) more }
-    ensures whole { (second : Bool) (records : List Record) → AreRight second 0 records →
+    ensures whole { (second : Bool) (records : List Record) → AreRecords second 0 records →
         (tape_read (tape second records)).ending ≡ Whole }
 {}
 
@@ -74,6 +75,6 @@ pub fn any_tape_cutting()
 pub fn tapes_migrate()
     ensures parts { (bytes : List ℕ) → AreBytes bytes → tape_parts (tape2 bytes) ≡ tape_parts bytes }
     ensures twice { (bytes : List ℕ) → AreBytes bytes → tape2 (tape2 bytes) ≡ tape2 bytes }
-    ensures records { (second : Bool) (records : List Record) → AreRight second 0 records →
+    ensures records { (second : Bool) (records : List Record) → AreRecords second 0 records →
         tape2 (tape second records) ≡ tape true (map (record_in_microseconds second) records) }
 {}

@@ -3,7 +3,7 @@
 ghost use Rattle.std.specs.Prelude.{◌≡◌, ◌≢◌, ℕ, ◌+◌, ◌*◌, ◌<◌, ◌≤◌, not, List, [], ◌∷◌, ◌++◌, length, false};
 ghost use Rattle.std.specs.Prelude.{IfOk, Err};
 ghost use Rattle.mb_frames.specs.Tapes.{RecordPart, is_whole, tape_whole};
-ghost use Rattle.mb_frames.specs.TapeSteps.{begin_by, behind, behind_head, behind_magic, ending_at, fresh, parts_at};
+ghost use Rattle.mb_frames.specs.TapeSteps.{begin_by, tape_behind, behind_head, magic_step, ending_at, fresh, parts_at};
 ghost use Rattle.mb_frames.specs.TapeSteps.{parts_from};
 ghost use Rattle.mb_frames.specs.TapeReading.{BeginsOnly, InHead, FaultStands, IsOver, TapeLongest, TapeStands};
 ghost use Rattle.mb_frames.specs.TapeReading.{IfTold, TapeTakes, tape_owed, tape_told};
@@ -159,7 +159,7 @@ impl Tape {
     /// Takes a byte of the magic or of a header.
     fn take<'a>(&mut self, byte: u8) -> Result<Option<TapePart<'a>>, TapeFault>
         requires { InHead self.old }
-        ensures state { self.new ≡ behind self.old byte }
+        ensures state { self.new ≡ tape_behind self.old byte }
         ensures told { tape_told result ≡ parts_at self.old byte }
         ensures fault { FaultStands self.new.place result }
         ensures none { IsOver result (InHead self.new) }
@@ -174,7 +174,7 @@ impl Tape {
     /// Takes a byte of the magic.
     fn take_magic<'a>(&mut self, byte: u8) -> Result<Option<TapePart<'a>>, TapeFault>
         requires { self.old.place ≡ place.Magic }
-        ensures state { self.new ≡ behind_magic self.old byte }
+        ensures state { self.new ≡ magic_step self.old byte }
         ensures told { tape_told result ≡ [] }
         ensures fault { FaultStands self.new.place result }
         ensures none { IsOver result (InHead self.new) }

@@ -17,7 +17,8 @@ use Rattle.mb_merge.proofs.Histories.{head_list}
 abbrev held_of : List Link → ℕ
 held_of links = sum_by (λ link. length link.held) links
 
-held-set : (links : List Link) (source : ℕ) (link : Link) → source < length links → held_of (slice_set links source link) + length (link_at links source).held ≡ held_of links + length link.held
+held-set : (links : List Link) (source : ℕ) (link : Link) → source < length links →
+    held_of (slice_set links source link) + length (link_at links source).held ≡ held_of links + length link.held
 held-set links source link below = sum_by-set (λ l. length l.held) links source link (closed_link []) below
 
 -- one fewer, where a mark passes
@@ -25,20 +26,24 @@ abbrev Fewer : Option Passed → (old new : ℕ) → Type 0
 Fewer None old new = Unit {0}
 Fewer (Some p) old new = new < old
 
-fewer-head : (m : Merger) (source : ℕ) (held : Option Held) → source < length m.links → slice_get (link_of m source).held 0 ≡ held →
+fewer-head : (m : Merger) (source : ℕ) (held : Option Held) → source < length m.links →
+    slice_get (link_of m source).held 0 ≡ held →
     Fewer (head_passes m source held).0 (to_pass m) (to_pass (head_passes m source held).1)
 fewer-head m source None below is = tt
 fewer-head m source (Some hd) below is =
     let split = head_list (link_of m source).held hd is in
     let before : length (link_of m source).held ≡ length split.0 + 1 = ap length split.1 ∙ omega arith in
-    let after : length (after_head (link_of m source) hd.mark).held ≡ length split.0 = ap (λ z. length (drop 1 z)) split.1 in
+    let after : length (after_head (link_of m source) hd.mark).held ≡ length split.0 =
+    ap (λ z. length (drop 1 z)) split.1 in
     omega (arith, held-set m.links source (after_head (link_of m source) hd.mark) below, before, after)
 
-fewer-held : (m : Merger) (best : Option Head) → IsLeast m.links best → Fewer (held_passes m best).0 (to_pass m) (to_pass (held_passes m best).1)
+fewer-held : (m : Merger) (best : Option Head) → IsLeast m.links best → Fewer (held_passes m best).0 (to_pass m)
+    (to_pass (held_passes m best).1)
 fewer-held m None h = tt
 fewer-held m (Some best) h = fewer-head m best.source (slice_get (link_of m best.source).held 0) h.1 refl
 
-fewer-offered : (m : Merger) (offered : Option Passed) → m.offered ≡ offered → HasSource m.links offered → Fewer (offered_passes m offered).0 (to_pass m) (to_pass (offered_passes m offered).1)
+fewer-offered : (m : Merger) (offered : Option Passed) → m.offered ≡ offered → HasSource m.links offered →
+    Fewer (offered_passes m offered).0 (to_pass m) (to_pass (offered_passes m offered).1)
 fewer-offered m None is below = fewer-held m (least m.links) (least-IsLeast m.links)
 fewer-offered m (Some p) is below =
     let one_was : count_offered m.offered ≡ 1 = ap count_offered is in
@@ -51,7 +56,8 @@ on_some : (o : Option Passed) (old new : ℕ) → Fewer o old new → OnSome o (
 on_some None old new h = tt
 on_some (Some p) old new h = h
 
-pub told_fewer : (m new : Merger) (told : Option Passed) → HasSource m.links m.offered → told ≡ (next_of m).0 → new ≡ (next_of m).1 → OnSome told (to_pass new < to_pass m)
+pub told_fewer : (m new : Merger) (told : Option Passed) → HasSource m.links m.offered → told ≡ (next_of m).0 →
+    new ≡ (next_of m).1 → OnSome told (to_pass new < to_pass m)
 told_fewer m new told below told_is new_is =
     subst (λ t. OnSome t (to_pass new < to_pass m)) (sym told_is)
     (subst (λ n. OnSome (next_of m).0 (to_pass n < to_pass m)) (sym new_is)

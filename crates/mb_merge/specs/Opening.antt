@@ -32,10 +32,10 @@ first_fault sources outs routes =
 
 -- Said of the routes: each of these, which stand behind others, has its numbers below the counts, and didn't stand
 -- before.
-abbrev pub AreRight : (sources outs : ℕ) → (before routes : List (ℕ × ℕ)) → Type 0
-AreRight sources outs before [] = Unit {0}
-AreRight sources outs before (r ∷ rs) =
-    ((r.0 < sources) × (r.1 < outs) × (stands_in r before ≡ false)) × AreRight sources outs (before ++ r ∷ []) rs
+abbrev pub AreRoutes : (sources outs : ℕ) → (before routes : List (ℕ × ℕ)) → Type 0
+AreRoutes sources outs before [] = Unit {0}
+AreRoutes sources outs before (r ∷ rs) =
+    ((r.0 < sources) × (r.1 < outs) × (stands_in r before ≡ false)) × AreRoutes sources outs (before ++ r ∷ []) rs
 
 abbrev pub IsWrongBy : (sources outs : ℕ) → (before : List (ℕ × ℕ)) → (r : ℕ × ℕ) → RouterFault → Type 0
 IsWrongBy sources outs before r fault.Count = ⊥
@@ -49,14 +49,14 @@ pub record IsFirstWrong (sources outs : ℕ) (before routes : List (ℕ × ℕ))
   pub route : ℕ × ℕ
   pub back : List (ℕ × ℕ)
   pub joined : routes ≡ front ++ route ∷ back
-  pub right : AreRight sources outs before front
+  pub right : AreRoutes sources outs before front
   pub why : IsWrongBy sources outs (before ++ front) route wrong
 
 abbrev pub AreCounts : (sources outs : ℕ) → Type 0
 AreCounts sources outs = (1 ≤ sources) × (sources ≤ 16) × (1 ≤ outs) × (outs ≤ 16)
 
 abbrev pub FaultIs : (sources outs : ℕ) → (routes : List (ℕ × ℕ)) → Option RouterFault → Type 0
-FaultIs sources outs routes None = AreCounts sources outs × AreRight sources outs [] routes
+FaultIs sources outs routes None = AreCounts sources outs × AreRoutes sources outs [] routes
 FaultIs sources outs routes (Some fault.Count) = AreCounts sources outs → ⊥
 FaultIs sources outs routes (Some fault.Index) = AreCounts sources outs ×
     IsFirstWrong sources outs [] routes fault.Index

@@ -1,6 +1,5 @@
 -- What a desk holds, for a desk that tells it: of each handle the bytes that are left to read, those that were taken,
--- and
--- those that were written. Handles are 0 standard input, 1 standard output and 2 standard error.
+-- and those that were written. Handles are 0 standard input, 1 standard output and 2 standard error.
 --
 --   after_read handle n c         the first n bytes of a handle were taken
 --   after_write handle bytes c    these bytes were written to a handle

@@ -15,7 +15,7 @@ use Rattle.mb_stream.specs.Groups.{Group}
 use Rattle.mb_stream.specs.Told.{Known}
 use Rattle.mb_stream.specs.Order.{in_order}
 use Rattle.mb_stream.specs.Reading.{payload_told}
-use Rattle.mb_stream.specs.Working.{news, behind}
+use Rattle.mb_stream.specs.Working.{news, group_behind}
 
 pub data Event : Type 0 where
   Carried : (port : ℕ) → (spot : Spot) → Event
@@ -61,7 +61,7 @@ abbrev pub ports_so_far : ℕ → List Event → List Ported
 ports_so_far n es = in_order known_of (flat_map (port_told es) (below n) ++ map unported (unit_notes es))
 
 abbrev pub one_more : (ℕ → Group) → ℕ → Spot → ℕ → Group
-one_more gs p x c = if p == c then behind (gs c) (Heard x) else gs c
+one_more gs p x c = if p == c then group_behind (gs c) (Heard x) else gs c
 
 abbrev pub ports_news : (ℕ → Group) → List Event → List Ported
 ports_news gs [] = []

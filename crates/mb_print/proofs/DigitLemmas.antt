@@ -29,7 +29,8 @@ pub record Ones (front : List ℕ) (last n : ℕ) : Type 0 where
   pub front_is : front ≡ []
   pub last_is : last ≡ 48 + n
 
-pub split : (digits front : List ℕ) (last n : ℕ) → digits ≡ front ++ last ∷ [] → n < 2 ^ 64 → digits ≡ decimal n → Ones front last n ⊎ Tens front last n
+pub split : (digits front : List ℕ) (last n : ℕ) → digits ≡ front ++ last ∷ [] → n < 2 ^ 64 → digits ≡ decimal n →
+    Ones front last n ⊎ Tens front last n
 split digits front last n cut small e = elim (decide n 10) [ inl few ↦ inl (one few) | inr some ↦ inr (more some) ]
   where
     decide : (a b : ℕ) → (a < b) ⊎ (b ≤ a)
@@ -46,11 +47,14 @@ split digits front last n cut small e = elim (decide n 10) [ inl few ↦ inl (on
         record { some = some; front_is = same.0; last_is = same.1 }
 
 -- one digit
-pub one_digit_is : (digits front : List ℕ) (last n : ℕ) → digits ≡ front ++ last ∷ [] → front ≡ [] → last ≡ 48 + n → n < 10 → digits ≡ decimal n
-one_digit_is digits front last n cut none is few = cut ∙ (ap (λ xs. xs ++ last ∷ []) none ∙ (ap (λ (d : ℕ). d ∷ []) is ∙ sym (decimal_digit n few)))
+pub one_digit_is : (digits front : List ℕ) (last n : ℕ) → digits ≡ front ++ last ∷ [] → front ≡ [] → last ≡ 48 + n →
+    n < 10 → digits ≡ decimal n
+one_digit_is digits front last n cut none is few = cut ∙ (ap (λ xs. xs ++ last ∷ []) none ∙ (ap (λ (d : ℕ). d ∷ []) is ∙
+    sym (decimal_digit n few)))
 
 -- one more digit
-pub one_more_is : (digits front : List ℕ) (last tens ones : ℕ) → digits ≡ front ++ last ∷ [] → front ≡ decimal tens → last ≡ 48 + ones → 0 < tens → ones < 10 → 10 * tens + ones < 2 ^ 64 →
+pub one_more_is : (digits front : List ℕ) (last tens ones : ℕ) → digits ≡ front ++ last ∷ [] → front ≡ decimal tens →
+    last ≡ 48 + ones → 0 < tens → ones < 10 → 10 * tens + ones < 2 ^ 64 →
     digits ≡ decimal (10 * tens + ones)
 one_more_is digits front last tens ones cut is last_is some few small =
     let n = 10 * tens + ones in
@@ -58,7 +62,8 @@ one_more_is digits front last tens ones cut is last_is some few small =
     let rest : ones ≡ n % 10 = omega arith in
     cut
     ∙ (ap (λ xs. xs ++ last ∷ []) (is ∙ ap decimal quotient)
-    ∙ (ap (λ (d : ℕ). decimal (n / 10) ++ d ∷ []) (last_is ∙ ap (λ (d : ℕ). 48 + d) rest) ∙ sym (decimal_step n (omega arith) small)))
+    ∙ (ap (λ (d : ℕ). decimal (n / 10) ++ d ∷ []) (last_is ∙ ap (λ (d : ℕ). 48 + d) rest) ∙
+    sym (decimal_step n (omega arith) small)))
 
 pub decimal-some : (n : ℕ) → n < 2 ^ 64 → 0 < length (decimal n)
 decimal-some n small = decimal_nonempty n small
@@ -69,7 +74,12 @@ none_left (x ∷ xs) e = absurd (omega (arith, e))
 
 -- a single digit isn't two
 pub not_tens : (front : List ℕ) (last n : ℕ) → n < 2 ^ 64 → length front ≡ 0 → Tens front last n → ⊥
-not_tens front last n small none m = omega (arith, none, ap length m.front_is, decimal-some (n / 10) (omega (arith, small)))
+not_tens front last n small none m = omega (
+  arith,
+  none,
+  ap length m.front_is,
+  decimal-some (n / 10) (omega (arith, small)),
+)
 
 pub not_ones : (front : List ℕ) (last n : ℕ) → 0 < length front → Ones front last n → ⊥
 not_ones front last n some o = omega (arith, some, ap length o.front_is)

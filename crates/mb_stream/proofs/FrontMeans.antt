@@ -145,7 +145,8 @@ items-abort (Some ds) (EndSign ∷ ms) = ap (λ z. Syx ds ∷ z) (items-abort No
 items-abort None (AbortSign ∷ ms) = items-abort None ms
 items-abort (Some ds) (AbortSign ∷ ms) = ap (λ z. Broken ds ∷ z) (items-abort None ms)
 
-realtimes-abort : (o : Bool) (n : ℕ) (ms : List Sign) → realtimes_from o n (ms ++ AbortSign ∷ []) ≡ realtimes_from o n ms
+realtimes-abort : (o : Bool) (n : ℕ) (ms : List Sign) → realtimes_from o n (ms ++ AbortSign ∷ []) ≡ realtimes_from o n
+    ms
 realtimes-abort o n [] = refl
 realtimes-abort o n (ShortSign s a b ∷ ms) = realtimes-abort o (suc n) ms
 realtimes-abort false n (EndSign ∷ ms) = realtimes-abort false n ms

@@ -12,7 +12,8 @@ pub signs_in-at : (m : ℕ) (signs : List Sign) → signs_in (puts_at m signs) �
 signs_in-at m [] = refl
 signs_in-at m (s ∷ signs) = ap (λ z. s ∷ z) (signs_in-at m signs)
 
-pub signs_in-more : (puts : List Put) (m : ℕ) (signs : List Sign) → signs_in (puts ++ puts_at m signs) ≡ signs_in puts ++ signs
+pub signs_in-more : (puts : List Put) (m : ℕ) (signs : List Sign) → signs_in (puts ++ puts_at m signs) ≡
+    signs_in puts ++ signs
 signs_in-more puts m signs = signs_in-append puts (puts_at m signs) ∙ ap (λ z. signs_in puts ++ z) (signs_in-at m signs)
 
 pub signs_in-flush : (puts : List Put) → signs_in (puts ++ Flush ∷ []) ≡ signs_in puts

@@ -1,12 +1,14 @@
 -- What readers tell composes, and can be said by another list of what is known.
-use Rattle.std.proofs.Common.{◌≡◌, ℕ, List, [], ◌∷◌, ◌++◌, map, refl, sym, ◌∙◌, ap, ap₂, subst, append_assoc, append-nil}
+use Rattle.std.proofs.Common.{◌≡◌, ℕ, List, [], ◌∷◌, ◌++◌, map, refl, sym, ◌∙◌, ap, ap₂, subst, append_assoc}
+use Rattle.std.proofs.Common.{append-nil}
 use Rattle.mb_stream.specs.ReaderLaw.{Goes, Tells, AllTold}
 
 map-append : {A B : Type 0} (f : A → B) (xs ys : List A) → map f (xs ++ ys) ≡ map f xs ++ map f ys
 map-append f [] ys = refl
 map-append f (x ∷ xs) ys = ap (λ z. f x ∷ z) (map-append f xs ys)
 
-pub tells-refl : {K T : Type 0} (bare : K → T) (known : List ℕ → List K) (now : List ℕ → List K → Type 0) (input : List ℕ) →
+pub tells-refl : {K T : Type 0} (bare : K → T) (known : List ℕ → List K) (now : List ℕ → List K → Type 0)
+    (input : List ℕ) →
     Tells bare known now now input input []
 tells-refl bare known now input bytes told h front = record {
   taken = [];
@@ -23,7 +25,8 @@ pub tells-trans : {K T : Type 0} (bare : K → T) (known : List ℕ → List K) 
     Tells bare known was now input left (seen ++ more)
 tells-trans bare known was mid now input between left seen more f g bytes told h front =
     let a : Goes bare known mid input between seen bytes told = f bytes told h front in
-    let here : bytes ++ input ≡ (bytes ++ a.taken) ++ between = ap (λ z. bytes ++ z) a.front ∙ sym (append_assoc bytes a.taken between) in
+    let here : bytes ++ input ≡ (bytes ++ a.taken) ++ between = ap (λ z. bytes ++ z) a.front ∙
+    sym (append_assoc bytes a.taken between) in
     let b : Goes bare known now between left more (bytes ++ a.taken) (told ++ a.fresh) =
     g (bytes ++ a.taken) (told ++ a.fresh) a.stands (a.still.0, ap known (sym here) ∙ a.still.1) in
     record {
@@ -41,7 +44,11 @@ pub tells-as : {K T : Type 0} (bare : K → T) (known also : List ℕ → List K
     (input left : List ℕ) (seen : List T) → ((bs : List ℕ) → known bs ≡ also bs) →
     Tells bare known was now input left seen → Tells bare also was now input left seen
 tells-as bare known also was now input left seen same tells bytes told h front =
-    let g : Goes bare known now input left seen bytes told = tells bytes told h (front.0, same (bytes ++ input) ∙ front.1) in
+    let g : Goes bare known now input left seen bytes told = tells bytes told h (
+      front.0,
+      same (bytes ++ input) ∙
+          front.1,
+    ) in
     record {
       taken = g.taken;
       front = g.front;

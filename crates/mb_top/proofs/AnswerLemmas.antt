@@ -13,7 +13,7 @@ use Rattle.mb_carrier.specs.declared.spec.Spec.{Spec}
 use Rattle.mb_words.specs.Command.{Command, Converting, Listing, Means}
 use Rattle.mb_words.proofs.CommandLemmas.{one_command}
 use Rattle.mb_top.specs.Output.{ReadsOne, reads_from, writes_to, may_want_memory, answers_notes, is_whole}
-use Rattle.mb_top.specs.Answer.{Answered, WentThrough, Moved, EndsAs, Says, faults_told, taken_off, added_to, code_of}
+use Rattle.mb_top.specs.Answer.{Answered, DidAll, Moved, EndsAs, Says, faults_told, taken_off, added_to, code_of}
 use Rattle.mb_top.specs.Answer.{text_of, read_all}
 use Rattle.mb_top.specs.Ran.{Ran, RanWords, MayAnswer, MayAnswerWords, Faulted, written_of}
 use Rattle.mb_top.specs.declared.status.Status.{Status}
@@ -249,7 +249,8 @@ pub answered : (words : List (List ℕ)) (limit : ℕ) (before mid after : Conte
     Faulted reads reads_mid faults faults_mid status → after ≡ after_write 2 text mid →
     Says (Rose faults_mid faults_now) text (text_of status) → (text ≡ text_of status → faults_now ≡ faults_mid) →
     Answered words limit before after faults faults_now answer
-answered words limit before mid after reads reads_mid faults faults_mid faults_now status answer text number r fault wrote says told =
+answered words limit before mid after reads reads_mid faults faults_mid faults_now status answer text number r fault
+    wrote says told =
     subst (λ (c : Contents). Answered words limit before c faults faults_now answer) (sym all)
     (record {
       moved = moved r.input r.output (r.tally ++ text) before r.front;
@@ -384,11 +385,11 @@ ends-at_status words limit before after faults faults_now answer c status e m a 
 pub went_through : (words : List (List ℕ)) (limit : ℕ) (before after : Contents) (faults faults_now answer : ℕ)
     (c : Command) →
     read_all answer ≡ true → Means words c → (a : Answered words limit before after faults faults_now answer) →
-    WentThrough c limit (before.left 0) (taken_off 0 before after) (added_to 1 before after) a.tally
+    DidAll c limit (before.left 0) (taken_off 0 before after) (added_to 1 before after) a.tally
 went_through words limit before after faults faults_now answer c all m a =
     at_the_end
     (λ s. EndsAs c limit (before.left 0) (taken_off 0 before after) (added_to 1 before after) a.tally s →
-    WentThrough c limit (before.left 0) (taken_off 0 before after) (added_to 1 before after) a.tally)
+    DidAll c limit (before.left 0) (taken_off 0 before after) (added_to 1 before after) a.tally)
     (λ ends. ends.0) (λ ends. ends.0) (λ ends. ends.0) a.status (sym (ap read_all a.number) ∙ all) (a.did c m).ends
 
 is_whole-of : (c : Command) (s : Spec) (input : List ℕ) → ReadsOne c s → is_whole c input ≡ whole s input
@@ -410,7 +411,7 @@ cut-at_end words limit before after faults faults_now answer c s reads all m a =
     (λ ends. (λ n. sym same ∙ ends.1, λ h. refl))
     a.status (sym (ap read_all a.number) ∙ all) (a.did c m).ends)
   where
-    went : WentThrough c limit (before.left 0) (taken_off 0 before after) (added_to 1 before after) a.tally
+    went : DidAll c limit (before.left 0) (taken_off 0 before after) (added_to 1 before after) a.tally
     went = went_through words limit before after faults faults_now answer c all m a
 
     same : is_whole c (taken_off 0 before after) ≡ whole s (before.left 0)

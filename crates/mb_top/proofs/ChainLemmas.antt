@@ -16,7 +16,7 @@ use Rattle.mb_chain.specs.declared.chain.Chain.{Chain}
 use Rattle.mb_chain.proofs.RowLemmas.{live-chain, through-chain, row-closes}
 use Rattle.mb_words.specs.Meaning.{front_of, end_of, converting}
 use Rattle.mb_words.proofs.CommandLemmas.{specs_again}
-use Rattle.mb_top.specs.Output.{output_of, live_output_of, is_whole, crossing, HasNoNotes}
+use Rattle.mb_top.specs.Output.{output_of, live_output_of, is_whole, arriving, HasNoNotes}
 use Rattle.mb_top.specs.Job.{ChainOf, JobFed, JobHalted, JobEnded, JobEndHalted}
 
 -- what was written stays written, and the end stands behind it
@@ -191,7 +191,7 @@ take-next (t ∷ specs) rest (suc n) s e = ap (λ (ss : List Spec). t ∷ ss) (t
 
 pub crossing-is : (specs rest : List Spec) (links : List Link) (at : ℕ) (s : Spec) (bytes : List ℕ) →
     links ≡ links_of specs → drop at specs ≡ s ∷ rest →
-    crossing_all links at bytes ≡ crossing (take at specs) s bytes
+    crossing_all links at bytes ≡ arriving (take at specs) s bytes
 crossing-is [] rest links at s bytes same e = absurd (nothing_behind at s rest e)
 crossing-is (first ∷ specs) rest links zero s bytes same e = ap
     (λ (ls : List Link). through_over (take zero ls) none_set bytes) same

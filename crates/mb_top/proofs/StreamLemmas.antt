@@ -15,7 +15,7 @@ use Rattle.mb_top.proofs.JobLemmas.{command-stays, command-closes}
 use Rattle.mb_words.specs.Command.{Command, Converting, Listing}
 use Rattle.mb_top.specs.Output.{output_of, is_whole, live_output_of, tally_of}
 use Rattle.mb_top.specs.Job.{JobFed, JobHalted, JobEnded, JobEndHalted, JobTold, JobTellHalted, Remarked}
-use Rattle.mb_top.specs.Answer.{EndsAs, WentThrough, all_but_last, PIECE}
+use Rattle.mb_top.specs.Answer.{EndsAs, DidAll, all_but_last, PIECE}
 use Rattle.mb_top.specs.Ran.{Ran, RanEnd, MayAnswer, at_end, written_of}
 use Rattle.mb_top.specs.declared.status.Status.{Status}
 use Rattle.mb_top.specs.declared.status.Status.TheVariants.{Stopped}
@@ -108,12 +108,31 @@ quietly input output before now e = e ∙ sym (after_write-none 2 (after_write 1
 pub ran-read_fault : (c : Command) (limit : ℕ) (before now : Contents) (bytes : List ℕ) →
     length bytes ≤ limit → SoFar c before now bytes → Ran c limit before now (Stopped ReadFault)
 ran-read_fault c limit before now bytes within s =
-    record { input = bytes; output = live_output_of c bytes; tally = []; contents = quietly bytes _ before now s.contents; front = s.front; within = within; ends = (refl, refl) }
+    record {
+      input = bytes;
+      output = live_output_of c bytes;
+      tally = [];
+      contents =
+          quietly bytes _ before now s.contents;
+      front = s.front;
+      within = within;
+      ends = (refl, refl);
+    }
 
 pub ran-too_long : (c : Command) (limit : ℕ) (before now : Contents) (bytes : List ℕ) →
     length bytes ≡ limit → SoFar c before now bytes → Ran c limit before now (Stopped TooLong)
 ran-too_long c limit before now bytes same s =
-    record { input = bytes; output = live_output_of c bytes; tally = []; contents = quietly bytes _ before now s.contents; front = s.front; within = omega (arith, same); ends = (same, refl, refl) }
+    record {
+      input = bytes;
+      output = live_output_of c bytes;
+      tally = [];
+      contents =
+          quietly bytes _ before now s.contents;
+      front = s.front;
+      within = omega (arith, same);
+      ends =
+          (same, refl, refl);
+    }
 
 -- the end was read
 pub at-end : (c : Command) (before old now : Contents) (bytes buffer : List ℕ) (count : ℕ) →
@@ -151,7 +170,7 @@ ran-end c d limit before old now bytes status same below s all r =
 
 -- the answer at the end, by whether the input is cut and whether it was remarked
 ends-at : (c : Command) (limit : ℕ) (left input output tally : List ℕ) (cut noted : Bool) →
-    WentThrough c limit left input output tally → cut ≡ not (is_whole c input) →
+    DidAll c limit left input output tally → cut ≡ not (is_whole c input) →
     Remarked noted c input → EndsAs c limit left input output tally (at_end cut noted)
 ends-at c limit left input output tally true noted w is_cut remarked = (w, not-true (is_whole c input) is_cut)
 ends-at c limit left input output tally false true w is_cut remarked =
@@ -170,7 +189,7 @@ end-ran c d before mid now bytes was done cut noted took tells status same_comma
       tally = t.given;
       contents = told ∙ ap (after_write 2 t.given) wrote;
       ends = λ limit below.
-          let w : WentThrough c limit bytes bytes (live_output_of c bytes ++ e.given) t.given =
+          let w : DidAll c limit bytes bytes (live_output_of c bytes ++ e.given) t.given =
           record {
             all = refl;
             below = below;
@@ -325,11 +344,12 @@ pub so_far-fed : {S : Type 0} (tells : Bool) (contents : S → Contents) (read_f
     (IsTrue tells → Gives (contents old) (contents mid) 0 count buffer) → piece ≡ take count buffer →
     (all : List ℕ) × (length all ≡ taken + count) × goes all ×
     (IsTrue tells → SoFar c (contents start) (contents now) all)
-so_far-fed tells contents read_faults c was goes start old mid now bytes piece buffer taken count f size more stands told gives cut = (
-  bytes ++ piece,
-  omega (arith, length-append bytes piece, size, more),
-  f.stands bytes stands,
-  λ t. so_far-more c (contents start) (contents mid) (contents now) bytes piece f.given
-      (read-piece c (contents start) (contents old) (contents mid) bytes buffer piece count (told t) (gives t) cut)
-      (f.took_it.contents_are t) (f.beyond bytes stands),
-)
+so_far-fed tells contents read_faults c was goes start old mid now bytes piece buffer taken count f size more stands
+    told gives cut = (
+      bytes ++ piece,
+      omega (arith, length-append bytes piece, size, more),
+      f.stands bytes stands,
+      λ t. so_far-more c (contents start) (contents mid) (contents now) bytes piece f.given
+          (read-piece c (contents start) (contents old) (contents mid) bytes buffer piece count (told t) (gives t) cut)
+          (f.took_it.contents_are t) (f.beyond bytes stands),
+    )

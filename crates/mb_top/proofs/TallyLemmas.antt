@@ -10,7 +10,7 @@ use Rattle.mb_carrier.specs.declared.spec.Spec.{Spec}
 use Rattle.mb_chain.specs.Row.{Link}
 use Rattle.mb_chain.specs.Chain.{ChainEnded, chain_links, links_of, crossing_all}
 use Rattle.mb_chain.specs.declared.chain.Chain.{Chain}
-use Rattle.mb_top.specs.Output.{crossing, tally_from}
+use Rattle.mb_top.specs.Output.{arriving, tally_from}
 use Rattle.mb_top.specs.Job.{ChainOf, Tallied, TalliedPart}
 use Rattle.mb_top.proofs.ChainLemmas.{crossing-is, take-next}
 
@@ -43,7 +43,7 @@ next_line specs links at count d s bytes same within is counted =
     let further : suc at ≡ at + 1 = omega arith in
     let place : length (take at specs) ≡ at = length-take-le at specs (omega (arith, within)) in
     ap (λ (ss : List Spec). tally_from (take at specs) ss bytes) next
-    ∙ (ap (λ (n : ℕ). hop_text n s (length (crossing (take at specs) s bytes))
+    ∙ (ap (λ (n : ℕ). hop_text n s (length (arriving (take at specs) s bytes))
     ++ tally_from (take at specs ++ s ∷ []) (drop (suc at) specs) bytes) place
     ∙ (ap (λ (n : ℕ). hop_text at s n ++ tally_from (take at specs ++ s ∷ []) (drop (suc at) specs) bytes)
     (sym (counted ∙ ap length (crossing-is specs (drop (suc at) specs) links at s bytes same next)))

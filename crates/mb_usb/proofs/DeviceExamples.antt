@@ -12,31 +12,37 @@ use Rattle.mb_usb.specs.Cables.{all_cables_so_far}
 -- data of a running status in packets that are meant for SysEx
 running_data_under_number_4 :
     usb_reading 0 (0x09 ∷ 0x90 ∷ 0x3c ∷ 0x64 ∷ 0x04 ∷ 0x40 ∷ 0x64 ∷ 0x43 ∷ 0x04 ∷ 0x64 ∷ 0x45 ∷ 0x00 ∷ []) ≡
-    part_at 0 (Marks (ShortSign 0x90 0x3c 0x64)) ∷ part_at 0 (Marks (ShortSign 0x90 0x40 0x64)) ∷ part_at 0 (Marks (ShortSign 0x90 0x43 0x64)) ∷ part_at 0 (Marks (ShortSign 0x90 0x45 0x00)) ∷ []
+    part_at 0 (Marks (ShortSign 0x90 0x3c 0x64)) ∷ part_at 0 (Marks (ShortSign 0x90 0x40 0x64)) ∷
+    part_at 0 (Marks (ShortSign 0x90 0x43 0x64)) ∷ part_at 0 (Marks (ShortSign 0x90 0x45 0x00)) ∷ []
 running_data_under_number_4 = refl
 
 sysex_byte_by_byte :
-    signs_of (usb_reading 0 (0x0f ∷ 0xf0 ∷ 0 ∷ 0 ∷ 0x0f ∷ 1 ∷ 0 ∷ 0 ∷ 0x0f ∷ 0xf7 ∷ 0 ∷ 0 ∷ [])) ≡ OpenSign ∷ ByteSign 1 ∷ EndSign ∷ []
+    signs_of (usb_reading 0 (0x0f ∷ 0xf0 ∷ 0 ∷ 0 ∷ 0x0f ∷ 1 ∷ 0 ∷ 0 ∷ 0x0f ∷ 0xf7 ∷ 0 ∷ 0 ∷ [])) ≡ OpenSign ∷
+    ByteSign 1 ∷ EndSign ∷ []
 sysex_byte_by_byte = refl
 
 sysex_broken_by_a_message :
-    signs_of (usb_reading 0 (0x0f ∷ 0xf0 ∷ 0 ∷ 0 ∷ 0x0f ∷ 1 ∷ 0 ∷ 0 ∷ 0x09 ∷ 0x90 ∷ 0x3c ∷ 0x64 ∷ [])) ≡ OpenSign ∷ ByteSign 1 ∷ AbortSign ∷ ShortSign 0x90 0x3c 0x64 ∷ []
+    signs_of (usb_reading 0 (0x0f ∷ 0xf0 ∷ 0 ∷ 0 ∷ 0x0f ∷ 1 ∷ 0 ∷ 0 ∷ 0x09 ∷ 0x90 ∷ 0x3c ∷ 0x64 ∷ [])) ≡ OpenSign ∷
+    ByteSign 1 ∷ AbortSign ∷ ShortSign 0x90 0x3c 0x64 ∷ []
 sysex_broken_by_a_message = refl
 
 -- a SysEx of one cable goes on over packets of another
 packets_of_another_cable_between :
-    signs_of (usb_reading 2 (0x24 ∷ 0xf0 ∷ 1 ∷ 2 ∷ 0x09 ∷ 0x90 ∷ 0x3c ∷ 0x64 ∷ 0x25 ∷ 0xf7 ∷ 0 ∷ 0 ∷ [])) ≡ OpenSign ∷ ByteSign 1 ∷ ByteSign 2 ∷ EndSign ∷ []
+    signs_of (usb_reading 2 (0x24 ∷ 0xf0 ∷ 1 ∷ 2 ∷ 0x09 ∷ 0x90 ∷ 0x3c ∷ 0x64 ∷ 0x25 ∷ 0xf7 ∷ 0 ∷ 0 ∷ [])) ≡ OpenSign ∷
+    ByteSign 1 ∷ ByteSign 2 ∷ EndSign ∷ []
 packets_of_another_cable_between = refl
 
 -- a program change under a number of three bytes reads the third as the data of another
 number_too_long :
     usb_reading 0 (0x0b ∷ 0xc0 ∷ 5 ∷ 6 ∷ []) ≡
-    part_at 0 (Marks (ShortSign 0xc0 5 0)) ∷ part_at 0 (Marks (ShortSign 0xc0 6 0)) ∷ part_at 0 (Notes 0 CinMismatch) ∷ []
+    part_at 0 (Marks (ShortSign 0xc0 5 0)) ∷ part_at 0 (Marks (ShortSign 0xc0 6 0)) ∷ part_at 0 (Notes 0 CinMismatch) ∷
+    []
 number_too_long = refl
 
 -- a note on under a number of two bytes leaves its last byte out
 number_too_short :
-    usb_reading 0 (0x0c ∷ 0x90 ∷ 0x3c ∷ 0x64 ∷ []) ≡ part_at 0 (Notes 0 CinMismatch) ∷ part_at 0 (Notes 1 Truncated) ∷ []
+    usb_reading 0 (0x0c ∷ 0x90 ∷ 0x3c ∷ 0x64 ∷ []) ≡ part_at 0 (Notes 0 CinMismatch) ∷ part_at 0 (Notes 1 Truncated) ∷
+    []
 number_too_short = refl
 
 stray_data_and_a_message_in_one_packet :

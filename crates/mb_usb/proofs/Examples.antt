@@ -19,7 +19,8 @@ sysex_of_two_bytes_ends_with_a_packet_of_number_5 :
 sysex_of_two_bytes_ends_with_a_packet_of_number_5 = refl
 
 tune_request_breaks_a_sysex_of_whole_packets :
-    usb_written 0 (OpenSign ∷ ByteSign 1 ∷ ByteSign 2 ∷ AbortSign ∷ ShortSign 0xf6 0 0 ∷ []) ≡ 0x04 ∷ 0xf0 ∷ 1 ∷ 2 ∷ 0x05 ∷ 0xf6 ∷ 0 ∷ 0 ∷ []
+    usb_written 0 (OpenSign ∷ ByteSign 1 ∷ ByteSign 2 ∷ AbortSign ∷ ShortSign 0xf6 0 0 ∷ []) ≡ 0x04 ∷ 0xf0 ∷ 1 ∷ 2 ∷
+    0x05 ∷ 0xf6 ∷ 0 ∷ 0 ∷ []
 tune_request_breaks_a_sysex_of_whole_packets = refl
 
 numbers_of_short_messages_on_the_last_cable :
@@ -42,12 +43,14 @@ open_sysex_waits_in_the_live_part : usb_live 0 (OpenSign ∷ ByteSign 1 ∷ RtSi
 open_sysex_waits_in_the_live_part = refl
 
 end_of_the_list_writes_what_waits :
-    usb_written 0 (OpenSign ∷ ByteSign 1 ∷ RtSign 0xf8 ∷ []) ≡ 0x0f ∷ 0xf8 ∷ 0 ∷ 0 ∷ 0x0f ∷ 0xf0 ∷ 0 ∷ 0 ∷ 0x0f ∷ 1 ∷ 0 ∷ 0 ∷ []
+    usb_written 0 (OpenSign ∷ ByteSign 1 ∷ RtSign 0xf8 ∷ []) ≡ 0x0f ∷ 0xf8 ∷ 0 ∷ 0 ∷ 0x0f ∷ 0xf0 ∷ 0 ∷ 0 ∷ 0x0f ∷ 1 ∷
+    0 ∷ 0 ∷ []
 end_of_the_list_writes_what_waits = refl
 
 -- the running form at the same lists
 what_waits_is_written_as_at_an_abort :
-    usb_at 0 (pending_from [] (OpenSign ∷ ByteSign 1 ∷ RtSign 0xf8 ∷ [])) AbortSign ≡ 0x0f ∷ 0xf0 ∷ 0 ∷ 0 ∷ 0x0f ∷ 1 ∷ 0 ∷ 0 ∷ []
+    usb_at 0 (pending_from [] (OpenSign ∷ ByteSign 1 ∷ RtSign 0xf8 ∷ [])) AbortSign ≡ 0x0f ∷ 0xf0 ∷ 0 ∷ 0 ∷ 0x0f ∷ 1 ∷
+    0 ∷ 0 ∷ []
 what_waits_is_written_as_at_an_abort = refl
 
 running_form_of_a_clock_inside_a_sysex :

@@ -1,8 +1,10 @@
 -- What a cable carries of written marks has no note.
-use Rattle.std.proofs.Common.{◌≡◌, ℕ, Bool, true, false, ◌==◌, if◌then◌else◌, List, [], ◌∷◌, ◌++◌, length, Option, Some, None, refl, sym, ap, ap₂, ◌∙◌, subst}
+use Rattle.std.proofs.Common.{◌≡◌, ℕ, Bool, true, false, ◌==◌, if◌then◌else◌, List, [], ◌∷◌, ◌++◌, length, Option, Some}
+use Rattle.std.proofs.Common.{None, refl, sym, ap, ap₂, ◌∙◌, subst}
 use Rattle.mb_message.specs.Signs.{Sign, ShortSign, RtSign, OpenSign, ByteSign, EndSign, AbortSign}
 use Rattle.mb_stream.proofs.ByteKinds.{DataKind, RtKind, EndKind, kind}
-use Rattle.mb_stream.proofs.Machine.{Reader, Rest, Inside, after, noted, is_begun, behind, Quiet, Clean, behind-append, Clean-append}
+use Rattle.mb_stream.proofs.Machine.{Reader, Rest, Inside, after, noted, is_begun, behind, Quiet, Clean, behind-append}
+use Rattle.mb_stream.proofs.Machine.{Clean-append}
 use Rattle.mb_stream.proofs.Late.{Place, Closed, Opened, Broke, is_opened}
 use Rattle.mb_stream.proofs.Suits.{Suit}
 use Rattle.mb_stream.proofs.SpelledStep.{bytes_at, Meets, Meets-quiet, Step, step}
@@ -45,7 +47,8 @@ Silent-push r p b h e = record {
 }
 
 -- one mark's bytes by themselves, none waiting
-clean_step : (r : Reader) (p : Place) (m : Sign) (s : Step false None r p m) (rest : List ℕ) → Clean s.next rest → Clean r (bytes_at false None m ++ rest)
+clean_step : (r : Reader) (p : Place) (m : Sign) (s : Step false None r p m) (rest : List ℕ) → Clean s.next rest →
+    Clean r (bytes_at false None m ++ rest)
 clean_step r p m s rest h =
     Clean-append r (bytes_at false None m) rest s.tells.quiet (subst (λ x. Clean x rest) (sym s.tells.next_is) h)
 
@@ -56,16 +59,19 @@ start r p h = record { quiet = ((Meets-quiet None r p h).1, tt); inside = refl }
 rt_clean : (r : Reader) (b : ℕ) (rest : List ℕ) → kind b ≡ RtKind → Clean r rest → Clean r (b ∷ rest)
 rt_clean r b rest e c = (ap (λ k. noted r k) e, subst (λ k. Clean (after r k b) rest) (sym e) c)
 
-clean-held : (ms : List Sign) (at : Place) (r : Reader) (p : List ℕ) → Holds at r p → Suit (is_opened at) ms → Clean r (held_back p ms)
+clean-held : (ms : List Sign) (at : Place) (r : Reader) (p : List ℕ) → Holds at r p → Suit (is_opened at) ms →
+    Clean r (held_back p ms)
 clean-held [] Closed r [] h su = (Meets-quiet None r Closed h).1
 clean-held [] Broke r [] h su = (Meets-quiet None r Broke h).1
 clean-held [] Opened r p h su = Clean-quiet r p h.quiet (ap is_begun h.inside)
 clean-held (ShortSign s a b ∷ ms) Closed r [] h su =
     let x : Step false None r Closed (ShortSign s a b) = step false None r Closed (ShortSign s a b) h su.0 in
-    clean_step r Closed (ShortSign s a b) x (held_back [] ms) (clean-held ms Closed x.next [] (Meets-any _ x.next Closed x.meets) su.1)
+    clean_step r Closed (ShortSign s a b) x (held_back [] ms) (clean-held ms Closed x.next [] (Meets-any _ x.next Closed
+    x.meets) su.1)
 clean-held (ShortSign s a b ∷ ms) Broke r [] h su =
     let x : Step false None r Broke (ShortSign s a b) = step false None r Broke (ShortSign s a b) h su.0 in
-    clean_step r Broke (ShortSign s a b) x (held_back [] ms) (clean-held ms Closed x.next [] (Meets-any _ x.next Closed x.meets) su.1)
+    clean_step r Broke (ShortSign s a b) x (held_back [] ms) (clean-held ms Closed x.next [] (Meets-any _ x.next Closed
+    x.meets) su.1)
 clean-held (ShortSign s a b ∷ ms) Opened r p h su = absurd su.0
 clean-held (RtSign b ∷ ms) Closed r [] h su = rt_clean r b (held_back [] ms) su.0 (clean-held ms Closed r [] h su.1)
 clean-held (RtSign b ∷ ms) Broke r [] h su = rt_clean r b (held_back [] ms) su.0 (clean-held ms Broke r [] h su.1)
@@ -77,10 +83,16 @@ clean-held (ByteSign b ∷ ms) Opened r p h su =
     let Goal : Bool → Type 0 = λ c. Clean r (if c then p ++ b ∷ held_back [] ms else held_back (p ++ b ∷ []) ms) in
     let quiet : Quiet (behind r p) (b ∷ []) = inside_quiet (behind r p) b h.inside su.0 in
     let later : Clean (behind (behind r p) (b ∷ [])) (held_back [] ms) =
-    clean-held ms Opened (behind (behind r p) (b ∷ [])) [] (record { quiet = tt; inside = ap₂ (λ x k. after x k b) h.inside su.0 }) su.1 in
-    let kept : Clean r (held_back (p ++ b ∷ []) ms) = clean-held ms Opened r (p ++ b ∷ []) (Silent-push r p b h su.0) su.1 in
+    clean-held ms Opened (behind (behind r p) (b ∷ [])) [] (record {
+      quiet = tt;
+      inside =
+          ap₂ (λ x k. after x k b) h.inside su.0;
+    }) su.1 in
+    let kept : Clean r (held_back (p ++ b ∷ []) ms) = clean-held ms Opened r (p ++ b ∷ []) (Silent-push r p b h su.0)
+    su.1 in
     elim (length p == 2) as Goal [
-      | true ↦ Clean-append r p (b ∷ held_back [] ms) h.quiet (Clean-append (behind r p) (b ∷ []) (held_back [] ms) quiet later)
+      | true ↦ Clean-append r p (b ∷ held_back [] ms) h.quiet (Clean-append (behind r p) (b ∷ []) (held_back [] ms)
+          quiet later)
       | false ↦ kept
     ]
 clean-held (EndSign ∷ ms) Opened r p h su =

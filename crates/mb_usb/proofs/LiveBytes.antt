@@ -12,7 +12,7 @@ use Rattle.mb_stream.proofs.Suits.{Suit}
 use Rattle.mb_usb.specs.Running.{pending_after, usb_from, pending_from}
 use Rattle.mb_usb.proofs.PacketFacts.{Cut, cut, packet_of, written, cut_bytes}
 use Rattle.mb_usb.proofs.WrittenCuts.{singles, singles-bytes, cuts_at, cuts, at-written, cuts-bytes}
-use Rattle.mb_usb.proofs.HeldBytes.{held_back, Waiting, Waiting-push, Waiting-start, Held}
+use Rattle.mb_usb.proofs.HeldBytes.{held_back, Waiting, Waiting-push, Waiting-start, HoldsBytes}
 
 -- the packets that are written at the marks
 abbrev pub live_cuts : List ℕ → List Sign → List Cut
@@ -29,7 +29,8 @@ pub cuts-live : (p : List ℕ) (ms : List Sign) → cuts p ms ≡ live_cuts p ms
 cuts-live p [] = refl
 cuts-live p (m ∷ ms) =
     ap (λ z. cuts_at p m ++ z) (cuts-live (pending_after p m) ms)
-    ∙ sym (append_assoc (cuts_at p m) (live_cuts (pending_after p m) ms) (singles (pending_from (pending_after p m) ms)))
+    ∙ sym (append_assoc (cuts_at p m) (live_cuts (pending_after p m) ms)
+    (singles (pending_from (pending_after p m) ms)))
 
 abbrev pub live_bytes : List ℕ → List Sign → List ℕ
 live_bytes p ms = cut_bytes (live_cuts p ms)
@@ -63,11 +64,11 @@ few_wait p (m ∷ ms) h = few_wait (pending_after p m) ms (few_after p m h)
 
 -- The reader behind the live bytes, and the bytes that wait behind it.
 
-pub held-after : (ms : List Sign) (o : Bool) (r : Reader) (p : List ℕ) → Held o r p → Suit o ms →
-    Held (open_from o ms) (behind r (live_bytes p ms)) (pending_from p ms)
+pub held-after : (ms : List Sign) (o : Bool) (r : Reader) (p : List ℕ) → HoldsBytes o r p → Suit o ms →
+    HoldsBytes (open_from o ms) (behind r (live_bytes p ms)) (pending_from p ms)
 held-after [] o r p h su = h
 held-after (ShortSign s a b ∷ ms) false r [] h su =
-    subst (λ (x : Reader). Held (open_from false ms) x (pending_from [] ms))
+    subst (λ (x : Reader). HoldsBytes (open_from false ms) x (pending_from [] ms))
     (sym (behind-append r (s ∷ data_of s a b) (live_bytes [] ms)))
     (held-after ms false (behind r (s ∷ data_of s a b)) [] tt su.1)
 held-after (ShortSign s a b ∷ ms) true r p h su = absurd su.0
@@ -79,26 +80,27 @@ held-after (OpenSign ∷ ms) true r p h su = absurd su.0
 held-after (ByteSign b ∷ ms) false r p h su = absurd su.0
 held-after (ByteSign b ∷ ms) true r p h su =
     let Goal : Bool → Type 0 = λ c.
-    Held (open_from true ms)
-    (behind r (cut_bytes ((if c then cut 4 (p ++ b ∷ []) ∷ [] else []) ++ live_cuts (if c then [] else p ++ b ∷ []) ms)))
+    HoldsBytes (open_from true ms)
+    (behind r (cut_bytes ((if c then cut 4 (p ++ b ∷ []) ∷ [] else []) ++ live_cuts (if c then [] else p ++ b ∷ [])
+    ms)))
     (pending_from (if c then [] else p ++ b ∷ []) ms) in
     let more : Waiting r (p ++ b ∷ []) = Waiting-push r p b h su.0 in
     let later = held-after ms true (behind r (p ++ b ∷ [])) [] (record { passes = tt; inside = more.inside }) su.1 in
     let kept = held-after ms true r (p ++ b ∷ []) more su.1 in
     elim (length p == 2) as Goal [
       | true ↦
-          subst (λ (x : Reader). Held (open_from true ms) x (pending_from [] ms))
+          subst (λ (x : Reader). HoldsBytes (open_from true ms) x (pending_from [] ms))
           (sym (behind-append r (p ++ b ∷ []) (live_bytes [] ms))) later
       | false ↦ kept
     ]
 held-after (EndSign ∷ ms) false r p h su = absurd su.0
 held-after (EndSign ∷ ms) true r p h su =
-    subst (λ (x : Reader). Held (open_from false ms) x (pending_from [] ms))
+    subst (λ (x : Reader). HoldsBytes (open_from false ms) x (pending_from [] ms))
     (sym (behind-append r (p ++ 0xf7 ∷ []) (live_bytes [] ms)))
     (held-after ms false (behind r (p ++ 0xf7 ∷ [])) [] tt su.1)
 held-after (AbortSign ∷ ms) false r p h su = absurd su.0
 held-after (AbortSign ∷ ms) true r p h su =
-    subst (λ (x : Reader). Held (open_from false ms) x (pending_from [] ms))
+    subst (λ (x : Reader). HoldsBytes (open_from false ms) x (pending_from [] ms))
     (sym (ap (behind r) carried ∙ behind-append r p (live_bytes [] ms)))
     (held-after ms false (behind r p) [] tt su.1)
   where

@@ -12,7 +12,8 @@ use Rattle.mb_stream.proofs.ByteKinds.{One, Two, Kind, DataKind, ChannelKind, Co
 use Rattle.mb_stream.proofs.ByteKinds.{EndKind, OtherKind, RtKind, OtherRtKind}
 use Rattle.mb_stream.proofs.LackLemmas.{lacks-marks}
 use Rattle.mb_stream.proofs.LiteralMarks.{heard_bytes}
-use Rattle.mb_stream.proofs.Machine.{Reader, Rest, Waits, Ready, Begun, Inside, ends, at_data, at_end, tells, after, tell}
+use Rattle.mb_stream.proofs.Machine.{Reader, Rest, Waits, Ready, Begun, Inside, ends, at_data, at_end, tells, after}
+use Rattle.mb_stream.proofs.Machine.{tell}
 use Rattle.mb_stream.proofs.Machine.{read, behind, read-append, read-tell}
 use Rattle.mb_stream.proofs.Passable.{Passable, Passable-append}
 use Rattle.mb_stream.proofs.ReadMarks.{Suit-read}
@@ -22,7 +23,7 @@ use Rattle.mb_usb.specs.Reading.{cable_payload, usb_so_far}
 use Rattle.mb_usb.specs.Running.{pending_from}
 use Rattle.mb_usb.specs.Written.{usb_live}
 use Rattle.mb_usb.proofs.GoodCuts.{AreGood-cuts}
-use Rattle.mb_usb.proofs.HeldBytes.{held_back, Held, denotation-held}
+use Rattle.mb_usb.proofs.HeldBytes.{held_back, HoldsBytes, denotation-held}
 use Rattle.mb_usb.proofs.LiveBytes.{live_cuts, live_bytes, live-written, cuts-live, held-live, few_wait, held-after}
 use Rattle.mb_usb.proofs.PacketFacts.{AreGood, AreGood-front, usb-carried}
 use Rattle.mb_usb.proofs.PayloadMarks.{usb_so_far-signs}
@@ -123,7 +124,7 @@ few_told r (b ∷ bs) h =
       few_told (after r (kind b) b) bs (Passable-second now later h),
     )
 
-Held-passes : (o : Bool) (r : Reader) (p : List ℕ) → Held o r p → Passable (tell r p)
+Held-passes : (o : Bool) (r : Reader) (p : List ℕ) → HoldsBytes o r p → Passable (tell r p)
 Held-passes true r p h = h.passes
 Held-passes false r [] h = tt
 Held-passes false r (x ∷ p) h = absurd h

@@ -1,5 +1,6 @@
 -- What a caller's loop keeps, from the clauses of `put` alone.
-use Rattle.std.proofs.Common.{◌≡◌, ℕ, Bool, true, List, [], ◌++◌, map, refl, sym, ap, subst, ◌∙◌, append_assoc, append-nil}
+use Rattle.std.proofs.Common.{◌≡◌, ℕ, Bool, true, List, [], ◌++◌, map, refl, sym, ap, subst, ◌∙◌, append_assoc}
+use Rattle.std.proofs.Common.{append-nil}
 use Rattle.std.specs.List.{list_all}
 use Rattle.std.proofs.lemmas.List.{map-append}
 use Rattle.std.proofs.lemmas.List.Folds.{list_all-append, list_all-map}
@@ -23,7 +24,8 @@ Sofar-nothing w had = record {
   cable = refl;
   stands = λ marks s. subst (Stands w) (sym (append-nil marks)) s;
   written = λ marks s.
-      subst (λ (ms : List Sign). Appended had had (usb_live w.cable marks) (usb_live w.cable ms)) (sym (append-nil marks))
+      subst (λ (ms : List Sign). Appended had had (usb_live w.cable marks) (usb_live w.cable ms))
+      (sym (append-nil marks))
       (Appended-nothing had (usb_live w.cable marks));
 }
 
@@ -36,22 +38,28 @@ taken-more marks taken piece =
 pub Sofar-more : (old mid new : Writer) (had has now taken piece : List ℕ) → Sofar old mid had has taken →
     new.cable ≡ mid.cable →
     ((marks : List Sign) → Stands mid marks → Stands new (marks ++ map ByteSign piece)) →
-    ((marks : List Sign) → Stands mid marks → Appended has now (usb_live mid.cable marks) (usb_live mid.cable (marks ++ map ByteSign piece))) →
+    ((marks : List Sign) → Stands mid marks → Appended has now (usb_live mid.cable marks) (usb_live mid.cable (marks ++
+    map ByteSign piece))) →
     Sofar old new had now (taken ++ piece)
 Sofar-more old mid new had has now taken piece so_far cable stands written = record {
   cable = cable ∙ so_far.cable;
-  stands = λ marks s. subst (Stands new) (taken-more marks taken piece) (stands (marks ++ map ByteSign taken) (so_far.stands marks s));
+  stands = λ marks s. subst (Stands new) (taken-more marks taken piece) (stands (marks ++ map ByteSign taken)
+      (so_far.stands marks s));
   written = λ marks s.
       let ms = marks ++ map ByteSign taken in
-      let call = subst (λ (c : ℕ). Appended has now (usb_live c ms) (usb_live c (ms ++ map ByteSign piece))) so_far.cable
+      let call = subst (λ (c : ℕ). Appended has now (usb_live c ms) (usb_live c (ms ++ map ByteSign piece)))
+      so_far.cable
       (written ms (so_far.stands marks s)) in
-      Appended-then had has now (usb_live old.cable marks) (usb_live old.cable ms) (usb_live old.cable (marks ++ map ByteSign (taken ++ piece)))
+      Appended-then had has now (usb_live old.cable marks) (usb_live old.cable ms) (usb_live old.cable (marks ++
+      map ByteSign (taken ++ piece)))
       (so_far.written marks s)
-      (subst (λ (longer : List Sign). Appended has now (usb_live old.cable ms) (usb_live old.cable longer)) (taken-more marks taken piece) call);
+      (subst (λ (longer : List Sign). Appended has now (usb_live old.cable ms) (usb_live old.cable longer))
+      (taken-more marks taken piece) call);
 }
 
 -- data suits where a SysEx is open
-pub run_suits : (o : Bool) (bytes : List ℕ) → o ≡ true → list_all is_data bytes ≡ true → list_all (suits_sign o) (map ByteSign bytes) ≡ true
+pub run_suits : (o : Bool) (bytes : List ℕ) → o ≡ true → list_all is_data bytes ≡ true →
+    list_all (suits_sign o) (map ByteSign bytes) ≡ true
 run_suits o bytes opened data_bytes =
     subst (λ (open_now : Bool). list_all (suits_sign open_now) (map ByteSign bytes) ≡ true) (sym opened)
     (list_all-map (suits_sign true) ByteSign bytes ∙ data_bytes)

@@ -1,21 +1,28 @@
 -- Where the bytes and the packets of a list stand.
 --
 --   Few q          bytes that wait: at most two, no F7
---   Held o q       none outside a SysEx
-use Rattle.std.proofs.Common.{◌≡◌, ℕ, ◌+◌, ◌==◌, ◌≤◌, Bool, true, false, List, [], ◌∷◌, ◌++◌, if◌then◌else◌, refl, sym, ap, subst, arith}
+--   FewHeld o q       none outside a SysEx
+use Rattle.std.proofs.Common.{◌≡◌, ℕ, ◌+◌, ◌==◌, ◌≤◌, Bool, true, false, List, [], ◌∷◌, ◌++◌, if◌then◌else◌, refl, sym}
+use Rattle.std.proofs.Common.{ap, subst, arith}
 use Rattle.std.proofs.lemmas.Bool.{false≢true}
 use Rattle.mb_message.specs.Signs.{Sign, ShortSign, RtSign, OpenSign, ByteSign, EndSign, AbortSign}
 use Rattle.mb_stream.proofs.StandingLemmas.{Suited}
 use Rattle.mb_usb.specs.Packets.{packet, single}
-use Rattle.mb_usb.specs.Written.{Placed, at_place, rest_of_sysex, end_of_sysex, part_packets, sysex_packets, usb_packets}
+use Rattle.mb_usb.specs.Written.{Placed, at_place, rest_of_sysex, end_of_sysex, part_packets, sysex_packets}
+use Rattle.mb_usb.specs.Written.{usb_packets}
 use Rattle.mb_usb.proofs.Places.{From, From-less, From-append}
 
 -- where things stand
 
 pub rest_of_sysex-From : (i : ℕ) (ms : List Sign) → From i (rest_of_sysex i ms)
 rest_of_sysex-From i [] = tt
-rest_of_sysex-From i (ByteSign b ∷ ms) = (omega arith, From-less i (i + 1) (rest_of_sysex (i + 1) ms) (omega arith) (rest_of_sysex-From (i + 1) ms))
-rest_of_sysex-From i (RtSign b ∷ ms) = From-less i (i + 1) (rest_of_sysex (i + 1) ms) (omega arith) (rest_of_sysex-From (i + 1) ms)
+rest_of_sysex-From i (ByteSign b ∷ ms) = (
+  omega arith,
+  From-less i (i + 1) (rest_of_sysex (i + 1) ms) (omega arith)
+      (rest_of_sysex-From (i + 1) ms),
+)
+rest_of_sysex-From i (RtSign b ∷ ms) = From-less i (i + 1) (rest_of_sysex (i + 1) ms) (omega arith)
+    (rest_of_sysex-From (i + 1) ms)
 rest_of_sysex-From i (EndSign ∷ ms) = (omega arith, tt)
 rest_of_sysex-From i (ShortSign s a b ∷ ms) = tt
 rest_of_sysex-From i (OpenSign ∷ ms) = tt
@@ -51,18 +58,33 @@ sysex_packets-From c n e (x ∷ y ∷ z ∷ xs) f le = (f.1.1.0, sysex_packets-F
 
 pub usb_packets-From : (c i : ℕ) (ms : List Sign) → From i (usb_packets c i ms)
 usb_packets-From c i [] = tt
-usb_packets-From c i (ShortSign s a b ∷ ms) = (omega arith, From-less i (i + 1) (usb_packets c (i + 1) ms) (omega arith) (usb_packets-From c (i + 1) ms))
-usb_packets-From c i (RtSign b ∷ ms) = (omega arith, From-less i (i + 1) (usb_packets c (i + 1) ms) (omega arith) (usb_packets-From c (i + 1) ms))
+usb_packets-From c i (ShortSign s a b ∷ ms) = (
+  omega arith,
+  From-less i (i + 1) (usb_packets c (i + 1) ms) (omega arith)
+      (usb_packets-From c (i + 1) ms),
+)
+usb_packets-From c i (RtSign b ∷ ms) = (
+  omega arith,
+  From-less i (i + 1) (usb_packets c (i + 1) ms) (omega arith)
+      (usb_packets-From c (i + 1) ms),
+)
 usb_packets-From c i (OpenSign ∷ ms) =
     let rest = rest_of_sysex (i + 1) ms in
-    let bytes : From i (at_place i 0xf0 ∷ rest) = (omega arith, From-less i (i + 1) rest (omega arith) (rest_of_sysex-From (i + 1) ms)) in
+    let bytes : From i (at_place i 0xf0 ∷ rest) = (
+      omega arith,
+      From-less i (i + 1) rest (omega arith)
+          (rest_of_sysex-From (i + 1) ms),
+    ) in
     let least : i + 1 ≤ end_of_sysex (i + 1) ms = end_of_sysex-least (i + 1) ms in
     From-append i (sysex_packets c (end_of_sysex (i + 1) ms) (at_place i 0xf0 ∷ rest)) (usb_packets c (i + 1) ms)
     (sysex_packets-From c i (end_of_sysex (i + 1) ms) (at_place i 0xf0 ∷ rest) bytes (omega arith))
     (From-less i (i + 1) (usb_packets c (i + 1) ms) (omega arith) (usb_packets-From c (i + 1) ms))
-usb_packets-From c i (ByteSign b ∷ ms) = From-less i (i + 1) (usb_packets c (i + 1) ms) (omega arith) (usb_packets-From c (i + 1) ms)
-usb_packets-From c i (EndSign ∷ ms) = From-less i (i + 1) (usb_packets c (i + 1) ms) (omega arith) (usb_packets-From c (i + 1) ms)
-usb_packets-From c i (AbortSign ∷ ms) = From-less i (i + 1) (usb_packets c (i + 1) ms) (omega arith) (usb_packets-From c (i + 1) ms)
+usb_packets-From c i (ByteSign b ∷ ms) = From-less i (i + 1) (usb_packets c (i + 1) ms) (omega arith)
+    (usb_packets-From c (i + 1) ms)
+usb_packets-From c i (EndSign ∷ ms) = From-less i (i + 1) (usb_packets c (i + 1) ms) (omega arith)
+    (usb_packets-From c (i + 1) ms)
+usb_packets-From c i (AbortSign ∷ ms) = From-less i (i + 1) (usb_packets c (i + 1) ms) (omega arith)
+    (usb_packets-From c (i + 1) ms)
 
 pub later-packets : (c i : ℕ) (ms : List Sign) → From i (usb_packets c (i + 1) ms)
 later-packets c i ms = From-less i (i + 1) (usb_packets c (i + 1) ms) (omega arith) (usb_packets-From c (i + 1) ms)
@@ -79,19 +101,21 @@ Few (x ∷ y ∷ []) = IsNoEnd x × IsNoEnd y
 Few (x ∷ y ∷ z ∷ xs) = ⊥
 
 -- none outside a SysEx
-abbrev pub Held : Bool → List (Placed ℕ) → Type 0
-Held true q = Few q
-Held false [] = Unit {0}
-Held false (x ∷ xs) = ⊥
+abbrev pub FewHeld : Bool → List (Placed ℕ) → Type 0
+FewHeld true q = Few q
+FewHeld false [] = Unit {0}
+FewHeld false (x ∷ xs) = ⊥
 
-pub Held-few : (o : Bool) (q : List (Placed ℕ)) → Held o q → Few q
-Held-few true q h = h
-Held-few false [] h = tt
-Held-few false (x ∷ q) h = absurd h
+pub FewHeld-few : (o : Bool) (q : List (Placed ℕ)) → FewHeld o q → Few q
+FewHeld-few true q h = h
+FewHeld-few false [] h = tt
+FewHeld-few false (x ∷ q) h = absurd h
 
-pub single-packets : (c e : ℕ) (x : Placed ℕ) → IsNoEnd x → part_packets c e (x ∷ []) ≡ at_place e (single c x.thing) ∷ []
+pub single-packets : (c e : ℕ) (x : Placed ℕ) → IsNoEnd x → part_packets c e (x ∷ []) ≡ at_place e (single c x.thing) ∷
+    []
 single-packets c e x none =
-    ap (λ (t : Bool). if t then at_place x.place (packet c 5 (x.thing ∷ [])) ∷ [] else at_place e (single c x.thing) ∷ []) none
+    ap (λ (t : Bool). if t then at_place x.place (packet c 5 (x.thing ∷ [])) ∷ [] else at_place e (single c x.thing) ∷
+    []) none
 
 pub two-packets : (c e : ℕ) (x y : Placed ℕ) → IsNoEnd y →
     part_packets c e (x ∷ y ∷ []) ≡ at_place e (single c x.thing) ∷ at_place e (single c y.thing) ∷ []
@@ -100,14 +124,16 @@ two-packets c e x y none =
     else at_place e (single c x.thing) ∷ at_place e (single c y.thing) ∷ []) none
 
 -- Bytes that wait stand earlier, but their packets don't.
-pub sysex_packets-pending : (c n e : ℕ) (q xs : List (Placed ℕ)) → Few q → From n xs → n ≤ e → From n (sysex_packets c e (q ++ xs))
+pub sysex_packets-pending : (c n e : ℕ) (q xs : List (Placed ℕ)) → Few q → From n xs → n ≤ e →
+    From n (sysex_packets c e (q ++ xs))
 sysex_packets-pending c n e [] xs few f le = sysex_packets-From c n e xs f le
 sysex_packets-pending c n e (x ∷ []) [] few f le =
     From-append n (part_packets c e (x ∷ [])) [] (subst (From n) (sym (single-packets c e x few)) (le, tt)) tt
 sysex_packets-pending c n e (x ∷ []) (y ∷ []) few f le = From-append n _ [] (part_of_two-From c n e x y f.0 le) tt
 sysex_packets-pending c n e (x ∷ []) (y ∷ z ∷ xs) few f le = (f.1.0, sysex_packets-From c n e xs f.1.1 le)
 sysex_packets-pending c n e (x ∷ y ∷ []) [] few f le =
-    From-append n (part_packets c e (x ∷ y ∷ [])) [] (subst (From n) (sym (two-packets c e x y few.1)) (le, (le, tt))) tt
+    From-append n (part_packets c e (x ∷ y ∷ [])) [] (subst (From n) (sym (two-packets c e x y few.1)) (le, (le, tt)))
+    tt
 sysex_packets-pending c n e (x ∷ y ∷ []) (z ∷ xs) few f le = (f.0, sysex_packets-From c n e xs f.1 le)
 sysex_packets-pending c n e (x ∷ y ∷ z ∷ q) xs few f le = absurd few
 

@@ -1,7 +1,8 @@
 -- Things at their places, put in order.
 --
 --   From n xs     all stand at n or after it
-use Rattle.std.proofs.Common.{◌≡◌, ℕ, ◌+◌, ◌<◌, ◌≤◌, Bool, true, false, nat_le, nat_lt, List, [], ◌∷◌, ◌++◌, if◌then◌else◌, refl, ap, ◌∙◌, arith}
+use Rattle.std.proofs.Common.{◌≡◌, ℕ, ◌+◌, ◌<◌, ◌≤◌, Bool, true, false, nat_le, nat_lt, List, [], ◌∷◌, ◌++◌}
+use Rattle.std.proofs.Common.{if◌then◌else◌, refl, ap, ◌∙◌, arith}
 use Rattle.std.proofs.lemmas.Bool.Decides.{nat_tests}
 use Rattle.mb_usb.specs.Written.{Placed, at_place, put_at, by_place, before_place}
 
@@ -46,14 +47,16 @@ module _ {X : Type 0} where
   by_place-first x bs f = put_at-first x (by_place bs) (From-by_place x.place bs f)
 
   -- what stands before all else comes first
-  pub by_place-front : (xs : List (Placed X)) (x : Placed X) (bs : List (Placed X)) → From (x.place + 1) xs → From x.place bs →
+  pub by_place-front : (xs : List (Placed X)) (x : Placed X) (bs : List (Placed X)) → From (x.place + 1) xs →
+      From x.place bs →
       by_place (xs ++ x ∷ bs) ≡ x ∷ by_place (xs ++ bs)
   by_place-front [] x bs f g = by_place-first x bs g
   by_place-front (y ∷ ys) x bs f g =
       let later : x.place < y.place = (let at : x.place + 1 ≤ y.place = f.0 in omega arith) in
       ap (put_at y) (by_place-front ys x bs f.1 g) ∙ put_at-behind y x (by_place (ys ++ bs)) later
 
-  pub before_place-append : (n : ℕ) (xs ys : List (Placed X)) → before_place n (xs ++ ys) ≡ before_place n xs ++ before_place n ys
+  pub before_place-append : (n : ℕ) (xs ys : List (Placed X)) → before_place n (xs ++ ys) ≡ before_place n xs ++
+      before_place n ys
   before_place-append n [] ys = refl
   before_place-append n (x ∷ xs) ys =
       let Goal : Bool → Type 0 = λ t.

@@ -1,5 +1,7 @@
 -- What a call keeps true of the packets and of each cable's reader, and by what callers' loops end.
-use Rattle.std.proofs.Common.{◌≡◌, ℕ, ◌+◌, ◌-◌, ◌*◌, ◌/◌, ◌%◌, ◌<◌, ◌≤◌, ◌≢◌, Bool, true, false, ◌||◌, ◌==◌, nat_le, if◌then◌else◌, Option, Some, None, is_none, List, [], ◌∷◌, length, set, drop, get_or, refl, sym, ◌∙◌, ap, ap₂, subst, arith}
+use Rattle.std.proofs.Common.{◌≡◌, ℕ, ◌+◌, ◌-◌, ◌*◌, ◌/◌, ◌%◌, ◌<◌, ◌≤◌, ◌≢◌, Bool, true, false, ◌||◌, ◌==◌, nat_le}
+use Rattle.std.proofs.Common.{if◌then◌else◌, Option, Some, None, is_none, List, [], ◌∷◌, length, set, drop, get_or}
+use Rattle.std.proofs.Common.{refl, sym, ◌∙◌, ap, ap₂, subst, arith}
 use Rattle.std.proofs.lemmas.List.{get_or-set_same, get_or-set_other, get_or_default, length-drop}
 use Rattle.std.specs.Prelude.{OnSome}
 use Rattle.std.proofs.lemmas.Bool.Decides.{nat_tests}
@@ -21,7 +23,8 @@ use Rattle.mb_usb.proofs.HandsLemmas.{packet_behind-offset, hands-end}
 
 -- A note is due only where no byte of the packet under way is still carried.
 
-reserved : (t : Bool) (x : Note) (more : ℕ) → (is_none (if t then Some x else None) || ((if t then 0 else more) == 0)) ≡ true
+reserved : (t : Bool) (x : Note) (more : ℕ) → (is_none (if t then Some x else None) || ((if t then 0 else more) == 0)) ≡
+    true
 reserved true x more = refl
 reserved false x more = refl
 
@@ -44,11 +47,13 @@ rested-behind p (b ∷ bs) h = rested-behind (packet_after p b) bs (rested-after
 
 -- A note of a packet is none of a broken message.
 
-reserved-unbroken : (t : Bool) (at : ℕ) → is_unbroken (if t then Some (record { kind = ReservedCin; at = at }) else None) ≡ true
+reserved-unbroken : (t : Bool) (at : ℕ) → is_unbroken (if t then Some (record { kind = ReservedCin; at = at }) else
+    None) ≡ true
 reserved-unbroken true at = refl
 reserved-unbroken false at = refl
 
-mismatch-unbroken : (t u : Bool) (at : ℕ) → is_unbroken (if t then None else (if u then None else Some (record { kind = CinMismatch; at = at }))) ≡ true
+mismatch-unbroken : (t u : Bool) (at : ℕ) → is_unbroken (if t then None else
+    (if u then None else Some (record { kind = CinMismatch; at = at }))) ≡ true
 mismatch-unbroken true u at = refl
 mismatch-unbroken false true at = refl
 mismatch-unbroken false false at = refl
@@ -62,7 +67,8 @@ unbroken-by (Three h a b) c at = mismatch-unbroken (nat_le (h % 16) 1) (suits_ci
 pub unbroken-after : (p : Packets) (b : ℕ) → is_unbroken (packet_after p b).due ≡ true
 unbroken-after p b = unbroken-by p.under b p.offset
 
-pub unbroken-behind : (p : Packets) (bs : List ℕ) → is_unbroken p.due ≡ true → is_unbroken (packet_behind p bs).due ≡ true
+pub unbroken-behind : (p : Packets) (bs : List ℕ) → is_unbroken p.due ≡ true → is_unbroken (packet_behind p bs).due ≡
+    true
 unbroken-behind p [] h = h
 unbroken-behind p (b ∷ bs) h = unbroken-behind (packet_after p b) bs (unbroken-after p b)
 
@@ -93,7 +99,8 @@ owed-carrying None left r e h = by_left (left == 0) refl where
 
 -- One cable's reader behind a call.
 
-pub set-behind : (was now : Packets) (dins : List State) (i : ℕ) (next : State) → AreBehind was dins → is_rested now ≡ true → was.offset ≤ now.offset → next.offset ≡ now.offset → i < length dins →
+pub set-behind : (was now : Packets) (dins : List State) (i : ℕ) (next : State) → AreBehind was dins →
+    is_rested now ≡ true → was.offset ≤ now.offset → next.offset ≡ now.offset → i < length dins →
     AreBehind now (set dins i next)
 set-behind was now dins i next h rested rises at low = record {
   rested = rested;
@@ -103,63 +110,88 @@ set-behind was now dins i next h rested rises at low = record {
   by_test c below true e =
       let same : i ≡ c = grind (arith, nat_tests) in
       let read : reader_at (set dins i next) i ≡ next = get_or-set_same dins i next din.fresh low in
-      let here : (reader_at (set dins i next) i).offset ≤ now.offset = omega (arith, ap (λ (s : State). s.offset) read) in
+      let here : (reader_at (set dins i next) i).offset ≤ now.offset =
+      omega (arith, ap (λ (s : State). s.offset) read) in
       subst (λ z. (reader_at (set dins i next) z).offset ≤ now.offset) same here
   by_test c below false e =
       let apart : c ≢ i = grind (arith, nat_tests) in
       let read : reader_at (set dins i next) c ≡ reader_at dins c = get_or-set_other dins i c next din.fresh apart in
       omega (arith, h.low c below, ap (λ (s : State). s.offset) read)
 
-pub hands-rises : (was now : Packets) (reader next : State) (input left : List ℕ) (answer : List Told) → Hands was now reader next input left answer → was.offset ≤ now.offset
+pub hands-rises : (was now : Packets) (reader next : State) (input left : List ℕ) (answer : List Told) →
+    Hands was now reader next input left answer → was.offset ≤ now.offset
 hands-rises was now reader next input left answer h =
-    let at : now.offset ≡ was.offset + length h.taken = ap (λ (z : Packets). z.offset) h.packet ∙ packet_behind-offset was h.taken in
+    let at : now.offset ≡ was.offset + length h.taken = ap (λ (z : Packets). z.offset) h.packet ∙
+    packet_behind-offset was h.taken in
     omega arith
 
-pub hands-rested : (was now : Packets) (reader next : State) (input left : List ℕ) (answer : List Told) → Hands was now reader next input left answer → is_rested was ≡ true → is_rested now ≡ true
+pub hands-rested : (was now : Packets) (reader next : State) (input left : List ℕ) (answer : List Told) →
+    Hands was now reader next input left answer → is_rested was ≡ true → is_rested now ≡ true
 hands-rested was now reader next input left answer h r = ap is_rested h.packet ∙ rested-behind was h.taken r
 
 -- Where bytes were taken, what is owed falls by more than it can rise; where none was, the cable's reader owes less.
-owed-falls : (was now : Packets) (r r' next : State) (taken : List ℕ) (l l' : ℕ) → now ≡ packet_behind was taken → was.due ≡ None → left_of was.under ≢ 0 →
-    (taken ≡ [] → r' ≡ next) → l' + length taken ≡ l → 2 * l' + din.owed next < 2 * l + din.owed r → 2 * l' + owed_of now r' < 2 * l + owed_of was r
+owed-falls : (was now : Packets) (r r' next : State) (taken : List ℕ) (l l' : ℕ) → now ≡ packet_behind was taken →
+    was.due ≡ None → left_of was.under ≢ 0 →
+    (taken ≡ [] → r' ≡ next) → l' + length taken ≡ l → 2 * l' + din.owed next < 2 * l + din.owed r →
+    2 * l' + owed_of now r' < 2 * l + owed_of was r
 owed-falls was now r r' next [] l l' e none left same lengths falls =
     let old : owed_of was r ≡ din.owed r = owed-carrying was.due (left_of was.under) (din.owed r) none left in
-    let new : owed_of now r' ≡ din.owed next = ap₂ owed_of e (same refl) ∙ owed-carrying was.due (left_of was.under) (din.owed next) none left in
+    let new : owed_of now r' ≡ din.owed next = ap₂ owed_of e (same refl) ∙ owed-carrying was.due (left_of was.under)
+    (din.owed next) none left in
     omega (arith, old, new)
 owed-falls was now r r' next (b ∷ bs) l l' e none left same lengths falls = omega (arith, owed-bound now r')
 
-pub hands-owed : (was now : Packets) (r r' next : State) (input left : List ℕ) (answer : List Told) (h : Hands was now r next input left answer) → was.due ≡ None → left_of was.under ≢ 0 →
-    (h.taken ≡ [] → r' ≡ next) → 2 * length left + din.owed next < 2 * length input + din.owed r → 2 * length left + owed_of now r' < 2 * length input + owed_of was r
+pub hands-owed : (was now : Packets) (r r' next : State) (input left : List ℕ) (answer : List Told)
+    (h : Hands was now r next input left answer) → was.due ≡ None → left_of was.under ≢ 0 →
+    (h.taken ≡ [] → r' ≡ next) → 2 * length left + din.owed next < 2 * length input + din.owed r →
+    2 * length left + owed_of now r' < 2 * length input + owed_of was r
 hands-owed was now r r' next input left answer h none left_over same falls =
-    let at : now.offset ≡ was.offset + length h.taken = ap (λ (z : Packets). z.offset) h.packet ∙ packet_behind-offset was h.taken in
-    let lengths : length left + length h.taken ≡ length input = omega (arith, hands-end was now r next input left answer h) in
+    let at : now.offset ≡ was.offset + length h.taken = ap (λ (z : Packets). z.offset) h.packet ∙
+    packet_behind-offset was h.taken in
+    let lengths : length left + length h.taken ≡ length input = omega (
+      arith,
+      hands-end was now r next input left answer
+          h,
+    ) in
     owed-falls was now r r' next h.taken (length input) (length left) h.packet none left_over same lengths falls
 
 -- the reader that was written is the one of the packet under way, where no byte was taken
-pub set-read : (was now : Packets) (dins : List State) (i : ℕ) (next : State) (taken : List ℕ) → now ≡ packet_behind was taken → i ≡ head_of was.under / 16 → i < length dins →
+pub set-read : (was now : Packets) (dins : List State) (i : ℕ) (next : State) (taken : List ℕ) →
+    now ≡ packet_behind was taken → i ≡ head_of was.under / 16 → i < length dins →
     taken ≡ [] → reader_at (set dins i next) (head_of now.under / 16) ≡ next
 set-read was now dins i next taken e at low none =
-    let same : head_of now.under / 16 ≡ i = ap (λ (z : Packets). head_of z.under / 16) (e ∙ ap (packet_behind was) none) ∙ sym at in
+    let same : head_of now.under / 16 ≡ i = ap (λ (z : Packets). head_of z.under / 16) (e ∙
+    ap (packet_behind was) none) ∙ sym at in
     ap (reader_at (set dins i next)) same ∙ get_or-set_same dins i next din.fresh low
 
 -- a reader by its index, read at any default
-pub hands-read : (was now : Packets) (dins : List State) (i : ℕ) (next d : State) (input left : List ℕ) (answer : List Told) → i < length dins → Hands was now (get_or dins i d) next input left answer →
+pub hands-read : (was now : Packets) (dins : List State) (i : ℕ) (next d : State) (input left : List ℕ)
+    (answer : List Told) → i < length dins → Hands was now (get_or dins i d) next input left answer →
     Hands was now (reader_at dins i) (reader_at (set dins i next) i) input left answer
 hands-read was now dins i next d input left answer low h =
     subst (λ r. Hands was now (reader_at dins i) r input left answer) (sym (get_or-set_same dins i next din.fresh low))
     (subst (λ r. Hands was now r next input left answer) (get_or_default dins i d din.fresh low) h)
 
-pub read-behind : (was now : Packets) (dins : List State) (i : ℕ) (next d : State) (input left : List ℕ) (answer : List Told) → i < length dins → Hands was now (get_or dins i d) next input left answer →
+pub read-behind : (was now : Packets) (dins : List State) (i : ℕ) (next d : State) (input left : List ℕ)
+    (answer : List Told) → i < length dins → Hands was now (get_or dins i d) next input left answer →
     next.offset ≡ now.offset → AreBehind was dins → AreBehind now (set dins i next)
 read-behind was now dins i next d input left answer low h at b =
-    set-behind was now dins i next b (hands-rested was now (get_or dins i d) next input left answer h b.rested) (hands-rises was now (get_or dins i d) next input left answer h) at low
+    set-behind was now dins i next b (hands-rested was now (get_or dins i d) next input left answer h b.rested)
+    (hands-rises was now (get_or dins i d) next input left answer h) at low
 
-pub read-owed : (was now : Packets) (dins : List State) (i : ℕ) (next d : State) (input left : List ℕ) (answer : List Told) → i < length dins → Hands was now (get_or dins i d) next input left answer →
-    i ≡ head_of was.under / 16 → was.due ≡ None → left_of was.under ≢ 0 → 2 * length left + din.owed next < 2 * length input + din.owed (get_or dins i d) →
-    2 * length left + owed_of now (reader_at (set dins i next) (head_of now.under / 16)) < 2 * length input + owed_of was (reader_at dins (head_of was.under / 16))
+pub read-owed : (was now : Packets) (dins : List State) (i : ℕ) (next d : State) (input left : List ℕ)
+    (answer : List Told) → i < length dins → Hands was now (get_or dins i d) next input left answer →
+    i ≡ head_of was.under / 16 → was.due ≡ None → left_of was.under ≢ 0 → 2 * length left + din.owed next < 2 *
+    length input + din.owed (get_or dins i d) →
+    2 * length left + owed_of now (reader_at (set dins i next) (head_of now.under / 16)) < 2 * length input +
+    owed_of was (reader_at dins (head_of was.under / 16))
 read-owed was now dins i next d input left answer low h at none over falls =
-    let here : get_or dins i d ≡ reader_at dins (head_of was.under / 16) = get_or_default dins i d din.fresh low ∙ ap (reader_at dins) at in
-    subst (λ r. 2 * length left + owed_of now (reader_at (set dins i next) (head_of now.under / 16)) < 2 * length input + owed_of was r) here
-    (hands-owed was now (get_or dins i d) (reader_at (set dins i next) (head_of now.under / 16)) next input left answer h none over
+    let here : get_or dins i d ≡ reader_at dins (head_of was.under / 16) = get_or_default dins i d din.fresh low ∙
+    ap (reader_at dins) at in
+    subst (λ r. 2 * length left + owed_of now (reader_at (set dins i next) (head_of now.under / 16)) < 2 *
+    length input + owed_of was r) here
+    (hands-owed was now (get_or dins i d) (reader_at (set dins i next) (head_of now.under / 16)) next input left answer
+    h none over
     (λ nothing. set-read was now dins i next h.taken h.packet at low nothing) falls)
 
 pub some_weaker : {T P Q : Type 0} (o : Option T) → (P → Q) → OnSome o P → OnSome o Q
@@ -167,16 +199,25 @@ some_weaker None f p = p
 some_weaker (Some x) f p = f p
 
 -- a byte that no cable carries was taken
-pub pass-behind : (p q r : Packets) (dins : List State) (b : ℕ) → AreBehind p dins → q ≡ record p { due = None } → r ≡ packet_after q b → AreBehind r dins
+pub pass-behind : (p q r : Packets) (dins : List State) (b : ℕ) → AreBehind p dins → q ≡ record p { due = None } →
+    r ≡ packet_after q b → AreBehind r dins
 pass-behind p q r dins b h same after = record {
   rested = ap is_rested after ∙ rested-after q b;
-  low = λ c below. omega (arith, h.low c below, ap (λ (z : Packets). z.offset) same, ap (λ (z : Packets). z.offset) after);
+  low = λ c below. omega (
+    arith,
+    h.low c below,
+    ap (λ (z : Packets). z.offset) same,
+    ap (λ (z : Packets). z.offset)
+        after,
+  );
 }
 
 -- what was handed to a cable's reader was taken whole
-pub shorter : (left : ℕ) (input rest behind : List ℕ) (b : ℕ) → left ≢ 0 → input ≡ b ∷ rest → behind ≡ drop left input → length behind < length input
+pub shorter : (left : ℕ) (input rest behind : List ℕ) (b : ℕ) → left ≢ 0 → input ≡ b ∷ rest → behind ≡ drop left input →
+    length behind < length input
 shorter left input rest behind b over first e =
     omega (arith, ap length first, ap length e, length-drop left input)
 
-pub falls : (p : Packets) (r : State) (behind input : List ℕ) (owes most : ℕ) → length behind < length input → 2 * length input + owes ≤ most → 2 * length behind + owed_of p r ≤ most
+pub falls : (p : Packets) (r : State) (behind input : List ℕ) (owes most : ℕ) → length behind < length input →
+    2 * length input + owes ≤ most → 2 * length behind + owed_of p r ≤ most
 falls p r behind input owes most less h = omega (arith, owed-bound p r)

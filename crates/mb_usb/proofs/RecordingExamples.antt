@@ -11,9 +11,11 @@ use Rattle.mb_usb.specs.Written.{usb_written}
 -- two cables, each with its own running status: 19 90 3C 64, 0F F8, 0C C0 05, 1F 40, 1F 64
 abbrev two_cables : List ℕ
 two_cables =
-    0x19 ∷ 0x90 ∷ 0x3c ∷ 0x64 ∷ 0x0f ∷ 0xf8 ∷ 0 ∷ 0 ∷ 0x0c ∷ 0xc0 ∷ 5 ∷ 0 ∷ 0x1f ∷ 0x40 ∷ 0 ∷ 0 ∷ 0x1f ∷ 0x64 ∷ 0 ∷ 0 ∷ []
+    0x19 ∷ 0x90 ∷ 0x3c ∷ 0x64 ∷ 0x0f ∷ 0xf8 ∷ 0 ∷ 0 ∷ 0x0c ∷ 0xc0 ∷ 5 ∷ 0 ∷ 0x1f ∷ 0x40 ∷ 0 ∷ 0 ∷ 0x1f ∷ 0x64 ∷ 0 ∷ 0 ∷
+    []
 
-running_status_is_of_one_cable : signs_of (usb_reading 1 two_cables) ≡ ShortSign 0x90 0x3c 0x64 ∷ ShortSign 0x90 0x40 0x64 ∷ []
+running_status_is_of_one_cable : signs_of (usb_reading 1 two_cables) ≡ ShortSign 0x90 0x3c 0x64 ∷ ShortSign 0x90 0x40
+    0x64 ∷ []
 running_status_is_of_one_cable = refl
 
 each_cable_has_its_own_messages : signs_of (usb_reading 0 two_cables) ≡ RtSign 0xf8 ∷ ShortSign 0xc0 5 0 ∷ []
@@ -53,12 +55,14 @@ sysex_over_three_packets :
     record { items = Syx (1 ∷ 2 ∷ 3 ∷ 4 ∷ 5 ∷ 6 ∷ []) ∷ []; realtimes = [] }
 sysex_over_three_packets = refl
 
-sysex_open_at_the_end_is_broken : signs_of (usb_reading 0 (0x04 ∷ 0xf0 ∷ 1 ∷ 2 ∷ [])) ≡ OpenSign ∷ ByteSign 1 ∷ ByteSign 2 ∷ AbortSign ∷ []
+sysex_open_at_the_end_is_broken : signs_of (usb_reading 0 (0x04 ∷ 0xf0 ∷ 1 ∷ 2 ∷ [])) ≡ OpenSign ∷ ByteSign 1 ∷
+    ByteSign 2 ∷ AbortSign ∷ []
 sysex_open_at_the_end_is_broken = refl
 
 -- what is written is read again
 written_is_read :
-    signs_of (usb_reading 7 (usb_written 7 (OpenSign ∷ ByteSign 1 ∷ RtSign 0xf8 ∷ ByteSign 2 ∷ EndSign ∷ ShortSign 0xf6 0 0 ∷ []))) ≡
+    signs_of (usb_reading 7 (usb_written 7 (OpenSign ∷ ByteSign 1 ∷ RtSign 0xf8 ∷ ByteSign 2 ∷ EndSign ∷ ShortSign 0xf6
+    0 0 ∷ []))) ≡
     RtSign 0xf8 ∷ OpenSign ∷ ByteSign 1 ∷ ByteSign 2 ∷ EndSign ∷ ShortSign 0xf6 0 0 ∷ []
 written_is_read = refl
 

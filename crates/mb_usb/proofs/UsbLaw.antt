@@ -1,7 +1,8 @@
 -- The packets of a list in the order of their places are those that the running form writes at each mark.
 --
 --   placed_from c i p ms    the packets at each mark and at the end of the list, with their places
-use Rattle.std.proofs.Common.{◌≡◌, ℕ, ◌+◌, ◌==◌, ◌<◌, ◌≤◌, Bool, true, false, List, [], ◌∷◌, ◌++◌, if◌then◌else◌, flat_map, length, refl, sym, ap, ◌∙◌, arith, append_assoc}
+use Rattle.std.proofs.Common.{◌≡◌, ℕ, ◌+◌, ◌==◌, ◌<◌, ◌≤◌, Bool, true, false, List, [], ◌∷◌, ◌++◌, if◌then◌else◌}
+use Rattle.std.proofs.Common.{flat_map, length, refl, sym, ap, ◌∙◌, arith, append_assoc}
 use Rattle.std.proofs.lemmas.Bool.Decides.{nat_tests}
 use Rattle.std.proofs.lemmas.Bool.{false≢true}
 use Rattle.std.proofs.lemmas.Grind.{flat_map-append}
@@ -12,10 +13,14 @@ use Rattle.mb_stream.specs.Standing.{suited, is_open}
 use Rattle.mb_stream.proofs.StandingLemmas.{Suited, Suited-from_suited, Suited-append, open_from, is_open-from}
 use Rattle.mb_usb.specs.Packets.{packet, cin_of_short, single}
 use Rattle.mb_usb.specs.Running.{pending_after, packets_at, usb_at, usb_from, pending_from}
-use Rattle.mb_usb.specs.Written.{Placed, at_place, by_place, before_place, bytes_of, rest_of_sysex, end_of_sysex, sysex_packets, usb_packets, usb_written, usb_live}
+use Rattle.mb_usb.specs.Written.{Placed, at_place, by_place, before_place, bytes_of, rest_of_sysex, end_of_sysex}
+use Rattle.mb_usb.specs.Written.{sysex_packets, usb_packets, usb_written, usb_live}
 use Rattle.mb_usb.proofs.RunningLemmas.{usb_from-append, usb_from-one}
-use Rattle.mb_usb.proofs.Places.{From, From-less, From-append, by_place-first, by_place-front, all_at, before_place-append, before_place-all, before_place-none}
-use Rattle.mb_usb.proofs.PacketPlaces.{rest_of_sysex-From, end_of_sysex-least, sysex_packets-From, later-packets, Held, Held-few, single-packets, two-packets, sysex_packets-pending, rest_of_sysex-outside}
+use Rattle.mb_usb.proofs.Places.{From, From-less, From-append, by_place-first, by_place-front, all_at}
+use Rattle.mb_usb.proofs.Places.{before_place-append, before_place-all, before_place-none}
+use Rattle.mb_usb.proofs.PacketPlaces.{rest_of_sysex-From, end_of_sysex-least, sysex_packets-From, later-packets}
+use Rattle.mb_usb.proofs.PacketPlaces.{FewHeld, FewHeld-few, single-packets, two-packets, sysex_packets-pending}
+use Rattle.mb_usb.proofs.PacketPlaces.{rest_of_sysex-outside}
 
 -- the running form with places
 
@@ -33,7 +38,8 @@ all_from c i q ms = sysex_packets c (end_of_sysex i ms) (q ++ rest_of_sysex i ms
 
 all_from-outside : (c i : ℕ) (ms : List Sign) → Suited false ms → all_from c i [] ms ≡ usb_packets c i ms
 all_from-outside c i ms s =
-    ap (λ (rest : List (Placed ℕ)). sysex_packets c (end_of_sysex i ms) rest ++ usb_packets c i ms) (rest_of_sysex-outside i ms s)
+    ap (λ (rest : List (Placed ℕ)). sysex_packets c (end_of_sysex i ms) rest ++ usb_packets c i ms)
+    (rest_of_sysex-outside i ms s)
 
 data_is_no_end : (b : ℕ) → is_data b ≡ true → (b == 0xf7) ≡ false
 data_is_no_end b h = grind (arith, nat_tests)
@@ -59,17 +65,19 @@ three-step c i x y b ms none behind =
     (From-less i (i + 1) (rest_of_sysex (i + 1) ms) (omega arith) (rest_of_sysex-From (i + 1) ms))
     (omega (arith, end_of_sysex-least (i + 1) ms)))
     (later-packets c i ms) in
-    ap (λ (t : Bool). by_place (at_place i (packet c (if t then 7 else 4) (x.thing ∷ y.thing ∷ b ∷ [])) ∷ packets)) none ∙
+    ap (λ (t : Bool). by_place (at_place i (packet c (if t then 7 else 4) (x.thing ∷ y.thing ∷ b ∷ [])) ∷ packets))
+    none ∙
     by_place-first (at_place i (packet c 4 (x.thing ∷ y.thing ∷ b ∷ []))) packets later ∙
     ap (λ (ps : List (Placed (List ℕ))). at_place i (packet c 4 (x.thing ∷ y.thing ∷ b ∷ [])) ∷ ps) behind
 
 -- The one induction, over the marks: q waits before them.
-all_from-placed : (c i : ℕ) (o : Bool) (q : List (Placed ℕ)) (ms : List Sign) → Held o q → Suited o ms →
+all_from-placed : (c i : ℕ) (o : Bool) (q : List (Placed ℕ)) (ms : List Sign) → FewHeld o q → Suited o ms →
     by_place (all_from c i q ms) ≡ placed_from c i (things q) ms
 -- the end of the list
 all_from-placed c i false [] [] h s = refl
 all_from-placed c i true [] [] h s = refl
-all_from-placed c i true (x ∷ []) [] h s = ap (λ (ps : List (Placed (List ℕ))). by_place ((ps ++ []) ++ [])) (single-packets c i x h)
+all_from-placed c i true (x ∷ []) [] h s = ap (λ (ps : List (Placed (List ℕ))). by_place ((ps ++ []) ++ []))
+    (single-packets c i x h)
 all_from-placed c i true (x ∷ y ∷ []) [] h s =
     ap (λ (ps : List (Placed (List ℕ))). by_place ((ps ++ []) ++ [])) (two-packets c i x y h.1) ∙
     by_place-first (at_place i (single c x.thing)) (at_place i (single c y.thing) ∷ []) (omega arith, tt)
@@ -79,13 +87,14 @@ all_from-placed c i false (x ∷ q) ms h s = absurd h
 all_from-placed c i o q (RtSign b ∷ ms) h s =
     let packets = sysex_packets c (end_of_sysex (i + 1) ms) (q ++ rest_of_sysex (i + 1) ms) in
     by_place-front packets (at_place i (single c b)) (usb_packets c (i + 1) ms)
-    (sysex_packets-pending c (i + 1) (end_of_sysex (i + 1) ms) q (rest_of_sysex (i + 1) ms) (Held-few o q h)
+    (sysex_packets-pending c (i + 1) (end_of_sysex (i + 1) ms) q (rest_of_sysex (i + 1) ms) (FewHeld-few o q h)
     (rest_of_sysex-From (i + 1) ms) (end_of_sysex-least (i + 1) ms))
     (later-packets c i ms) ∙
     ap (λ (ps : List (Placed (List ℕ))). at_place i (single c b) ∷ ps) (all_from-placed c (i + 1) o q ms h s.1)
 -- outside a SysEx
 all_from-placed c i false [] (ShortSign t a b ∷ ms) h s =
-    closed-step c i (packet c (cin_of_short t) (t ∷ data_of t a b)) ms s.1 (all_from-placed c (i + 1) false [] ms tt s.1)
+    closed-step c i (packet c (cin_of_short t) (t ∷ data_of t a b)) ms s.1 (all_from-placed c (i + 1) false [] ms tt
+    s.1)
 all_from-placed c i false [] (OpenSign ∷ ms) h s = all_from-placed c (i + 1) true (at_place i 0xf0 ∷ []) ms refl s.1
 all_from-placed c i false [] (ByteSign b ∷ ms) h s = absurd (false≢true s.0)
 all_from-placed c i false [] (EndSign ∷ ms) h s = absurd (false≢true s.0)
@@ -97,7 +106,8 @@ all_from-placed c i true (x ∷ y ∷ []) (ShortSign t a b ∷ ms) h s = absurd 
 all_from-placed c i true [] (OpenSign ∷ ms) h s = absurd (false≢true s.0)
 all_from-placed c i true (x ∷ []) (OpenSign ∷ ms) h s = absurd (false≢true s.0)
 all_from-placed c i true (x ∷ y ∷ []) (OpenSign ∷ ms) h s = absurd (false≢true s.0)
-all_from-placed c i true [] (ByteSign b ∷ ms) h s = all_from-placed c (i + 1) true (at_place i b ∷ []) ms (data_is_no_end b s.0) s.1
+all_from-placed c i true [] (ByteSign b ∷ ms) h s = all_from-placed c (i + 1) true (at_place i b ∷ []) ms
+    (data_is_no_end b s.0) s.1
 all_from-placed c i true (x ∷ []) (ByteSign b ∷ ms) h s =
     all_from-placed c (i + 1) true (x ∷ at_place i b ∷ []) ms (h, data_is_no_end b s.0) s.1
 all_from-placed c i true (x ∷ y ∷ []) (ByteSign b ∷ ms) h s =
@@ -115,7 +125,8 @@ all_from-placed c i true (x ∷ []) (AbortSign ∷ ms) h s =
     closed-step c i (single c x.thing) ms s.1 (all_from-placed c (i + 1) false [] ms tt s.1)
 all_from-placed c i true (x ∷ y ∷ []) (AbortSign ∷ ms) h s =
     ap (λ (ps : List (Placed (List ℕ))). by_place ((ps ++ []) ++ usb_packets c (i + 1) ms)) (two-packets c i x y h.1) ∙
-    by_place-first (at_place i (single c x.thing)) (at_place i (single c y.thing) ∷ usb_packets c (i + 1) ms) (omega arith, later-packets c i ms) ∙
+    by_place-first (at_place i (single c x.thing)) (at_place i (single c y.thing) ∷ usb_packets c (i + 1) ms)
+    (omega arith, later-packets c i ms) ∙
     ap (λ (ps : List (Placed (List ℕ))). at_place i (single c x.thing) ∷ ps)
     (closed-step c i (single c y.thing) ms s.1 (all_from-placed c (i + 1) false [] ms tt s.1))
 
@@ -137,9 +148,11 @@ placed_from-bytes : (c i : ℕ) (p : List ℕ) (ms : List Sign) →
 placed_from-bytes c i p [] = bytes_of-all_at i (packets_at c p AbortSign)
 placed_from-bytes c i p (m ∷ ms) =
     bytes_of-append (all_at i (packets_at c p m)) (placed_from c (i + 1) (pending_after p m) ms) ∙
-    ap (λ (ys : List ℕ). ys ++ bytes_of (placed_from c (i + 1) (pending_after p m) ms)) (bytes_of-all_at i (packets_at c p m)) ∙
+    ap (λ (ys : List ℕ). ys ++ bytes_of (placed_from c (i + 1) (pending_after p m) ms))
+    (bytes_of-all_at i (packets_at c p m)) ∙
     ap (λ (ys : List ℕ). usb_at c p m ++ ys) (placed_from-bytes c (i + 1) (pending_after p m) ms) ∙
-    sym (append_assoc (usb_at c p m) (usb_from c (pending_after p m) ms) (usb_at c (pending_from (pending_after p m) ms) AbortSign))
+    sym (append_assoc (usb_at c p m) (usb_from c (pending_after p m) ms) (usb_at c (pending_from (pending_after p m) ms)
+    AbortSign))
 
 placed_from-live : (c i n : ℕ) (p : List ℕ) (ms : List Sign) → n ≡ i + length ms →
     bytes_of (before_place n (placed_from c i p ms)) ≡ usb_from c p ms
@@ -151,7 +164,8 @@ placed_from-live c i n p (m ∷ ms) e =
     let more = placed_from c (i + 1) (pending_after p m) ms in
     ap bytes_of (before_place-append n (all_at i (packets_at c p m)) more) ∙
     bytes_of-append (before_place n (all_at i (packets_at c p m))) (before_place n more) ∙
-    ap (λ (ps : List (Placed (List ℕ))). bytes_of ps ++ bytes_of (before_place n more)) (before_place-all n i (packets_at c p m) before) ∙
+    ap (λ (ps : List (Placed (List ℕ))). bytes_of ps ++ bytes_of (before_place n more))
+    (before_place-all n i (packets_at c p m) before) ∙
     ap (λ (ys : List ℕ). ys ++ bytes_of (before_place n more)) (bytes_of-all_at i (packets_at c p m)) ∙
     ap (λ (ys : List ℕ). usb_at c p m ++ ys) (placed_from-live c (i + 1) n (pending_after p m) ms (omega (arith, e)))
 
@@ -169,10 +183,12 @@ usb_written-live c ms s =
 pub live : (c : ℕ) (ms : List Sign) → suited ms ≡ true → usb_live c ms ≡ usb_from c [] ms
 live c ms s = usb_live-from c ms (Suited-from_suited ms s)
 
-pub rest : (c : ℕ) (ms : List Sign) → suited ms ≡ true → usb_written c ms ≡ usb_live c ms ++ usb_at c (pending_from [] ms) AbortSign
+pub rest : (c : ℕ) (ms : List Sign) → suited ms ≡ true → usb_written c ms ≡ usb_live c ms ++
+    usb_at c (pending_from [] ms) AbortSign
 rest c ms s = usb_written-live c ms (Suited-from_suited ms s)
 
-pub broken : (c : ℕ) (ms : List Sign) → suited ms ≡ true → is_open ms ≡ true → usb_live c (ms ++ AbortSign ∷ []) ≡ usb_written c ms
+pub broken : (c : ℕ) (ms : List Sign) → suited ms ≡ true → is_open ms ≡ true → usb_live c (ms ++ AbortSign ∷ []) ≡
+    usb_written c ms
 broken c ms s open_now =
     let aborts : Suited (open_from false ms) (AbortSign ∷ []) = (sym (is_open-from ms) ∙ open_now, tt) in
     usb_live-from c (ms ++ AbortSign ∷ []) (Suited-append false ms (AbortSign ∷ []) (Suited-from_suited ms s) aborts) ∙

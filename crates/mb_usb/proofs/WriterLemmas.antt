@@ -20,7 +20,8 @@ Stands-put old new e ms suits opened pending s = record {
       opened ∙ sym (open_from-event old.in_sysex e suits) ∙
       ap (λ (o : Bool). open_from o (signs_of_event e)) s.open_now ∙ sym (is_open-append ms (signs_of_event e));
   left =
-      pending ∙ ap (λ (p : List ℕ). pending_from p (signs_of_event e)) s.left ∙ sym (pending_from-append [] ms (signs_of_event e));
+      pending ∙ ap (λ (p : List ℕ). pending_from p (signs_of_event e)) s.left ∙
+      sym (pending_from-append [] ms (signs_of_event e));
 }
 
 -- what an event appends
@@ -35,11 +36,13 @@ usb_live-more w e ms old new suits written s =
       beyond =
           law.live w.cable (ms ++ signs_of_event e) longer ∙ usb_from-append w.cable [] ms (signs_of_event e) ∙
           ap (λ (p : List ℕ). usb_from w.cable [] ms ++ usb_from w.cable p (signs_of_event e)) (sym s.left) ∙
-          ap (λ (xs : List ℕ). xs ++ usb_from w.cable w.pending (signs_of_event e)) (sym (law.live w.cable ms s.each_suits));
+          ap (λ (xs : List ℕ). xs ++ usb_from w.cable w.pending (signs_of_event e))
+          (sym (law.live w.cable ms s.each_suits));
     }
 
 -- what the finish appends
-pub usb_written-rest : (w : Writer) (ms : List Sign) (old new : List ℕ) → new ≡ old ++ usb_at w.cable w.pending AbortSign → Stands w ms →
+pub usb_written-rest : (w : Writer) (ms : List Sign) (old new : List ℕ) → new ≡ old ++
+    usb_at w.cable w.pending AbortSign → Stands w ms →
     Appended old new (usb_live w.cable ms) (usb_written w.cable ms)
 usb_written-rest w ms old new written s = record {
   wrote = usb_at w.cable w.pending AbortSign;

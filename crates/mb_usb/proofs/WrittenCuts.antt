@@ -1,5 +1,6 @@
 -- The packets that the running form writes, as their numbers and bytes.
-use Rattle.std.proofs.Common.{◌≡◌, ℕ, suc, ◌+◌, ◌≤◌, Bool, true, false, ◌==◌, if◌then◌else◌, List, [], ◌∷◌, ◌++◌, map, length, flat_map, refl, sym, ap, ap₂, ◌∙◌, arith, length-append, append_assoc}
+use Rattle.std.proofs.Common.{◌≡◌, ℕ, suc, ◌+◌, ◌≤◌, Bool, true, false, ◌==◌, if◌then◌else◌, List, [], ◌∷◌, ◌++◌, map}
+use Rattle.std.proofs.Common.{length, flat_map, refl, sym, ap, ap₂, ◌∙◌, arith, length-append, append_assoc}
 use Rattle.std.proofs.lemmas.List.Concat.{flat_map-append}
 use Rattle.mb_message.specs.Signs.{Sign, ShortSign, RtSign, OpenSign, ByteSign, EndSign, AbortSign}
 use Rattle.mb_stream.specs.Spelling.{data_of}
@@ -25,7 +26,8 @@ abbrev pub cuts : List ℕ → List Sign → List Cut
 cuts p [] = singles p
 cuts p (m ∷ ms) = cuts_at p m ++ cuts (pending_after p m) ms
 
-singles-written : (cable : ℕ) (p : List ℕ) → flat_map (λ bytes. bytes) (map (single cable) p) ≡ written cable (singles p)
+singles-written : (cable : ℕ) (p : List ℕ) → flat_map (λ bytes. bytes) (map (single cable) p) ≡ written cable
+    (singles p)
 singles-written cable [] = refl
 singles-written cable (b ∷ p) = ap (λ bs. single cable b ++ bs) (singles-written cable p)
 
@@ -46,7 +48,8 @@ pub cuts-written : (cable : ℕ) (p : List ℕ) (ms : List Sign) →
     usb_from cable p ms ++ usb_at cable (pending_from p ms) AbortSign ≡ written cable (cuts p ms)
 cuts-written cable p [] = singles-written cable p
 cuts-written cable p (m ∷ ms) =
-    append_assoc (usb_at cable p m) (usb_from cable (pending_after p m) ms) (usb_at cable (pending_from (pending_after p m) ms) AbortSign)
+    append_assoc (usb_at cable p m) (usb_from cable (pending_after p m) ms)
+    (usb_at cable (pending_from (pending_after p m) ms) AbortSign)
     ∙ (ap₂ (λ bs cs. bs ++ cs) (at-written cable p m) (cuts-written cable (pending_after p m) ms)
     ∙ sym (flat_map-append (packet_of cable) (cuts_at p m) (cuts (pending_after p m) ms)))
 
@@ -56,7 +59,8 @@ pub singles-bytes : (p : List ℕ) → cut_bytes (singles p) ≡ p
 singles-bytes [] = refl
 singles-bytes (b ∷ p) = ap (λ bs. b ∷ bs) (singles-bytes p)
 
-cut-bytes_before : (xs : List Cut) (ys : List Cut) (bs cs : List ℕ) → cut_bytes xs ≡ bs → cut_bytes ys ≡ cs → cut_bytes (xs ++ ys) ≡ bs ++ cs
+cut-bytes_before : (xs : List Cut) (ys : List Cut) (bs cs : List ℕ) → cut_bytes xs ≡ bs → cut_bytes ys ≡ cs →
+    cut_bytes (xs ++ ys) ≡ bs ++ cs
 cut-bytes_before xs ys bs cs h k = flat_map-append (λ x. x.bytes) xs ys ∙ ap₂ (λ b c. b ++ c) h k
 
 pub cuts-bytes : (p : List ℕ) (ms : List Sign) → cut_bytes (cuts p ms) ≡ held_back p ms
@@ -72,8 +76,10 @@ cuts-bytes p (ByteSign b ∷ ms) =
       | true ↦ ap (λ bs. (p ++ b ∷ []) ++ bs) (cuts-bytes [] ms) ∙ append_assoc p (b ∷ []) (held_back [] ms)
       | false ↦ cuts-bytes (p ++ b ∷ []) ms
     ]
-cuts-bytes p (EndSign ∷ ms) = ap (λ bs. (p ++ 0xf7 ∷ []) ++ bs) (cuts-bytes [] ms) ∙ append_assoc p (0xf7 ∷ []) (held_back [] ms)
-cuts-bytes p (AbortSign ∷ ms) = cut-bytes_before (singles p) (cuts [] ms) p (held_back [] ms) (singles-bytes p) (cuts-bytes [] ms)
+cuts-bytes p (EndSign ∷ ms) = ap (λ bs. (p ++ 0xf7 ∷ []) ++ bs) (cuts-bytes [] ms) ∙
+    append_assoc p (0xf7 ∷ []) (held_back [] ms)
+cuts-bytes p (AbortSign ∷ ms) = cut-bytes_before (singles p) (cuts [] ms) p (held_back [] ms) (singles-bytes p)
+    (cuts-bytes [] ms)
 
 -- How many there are: one a mark at most, since the bytes that wait came of marks that wrote nothing.
 
@@ -88,10 +94,16 @@ length-cuts p (RtSign b ∷ ms) = omega (arith, length-cuts p ms)
 length-cuts p (OpenSign ∷ ms) = omega (arith, length-cuts (0xf0 ∷ []) ms)
 length-cuts p (ByteSign b ∷ ms) =
     let Goal : Bool → Type 0 = λ c.
-    length ((if c then cut 4 (p ++ b ∷ []) ∷ [] else []) ++ cuts (if c then [] else p ++ b ∷ []) ms) ≤ suc (length ms) + length p in
+    length ((if c then cut 4 (p ++ b ∷ []) ∷ [] else []) ++ cuts (if c then [] else p ++ b ∷ []) ms) ≤ suc (length ms) +
+    length p in
     elim (length p == 2) as Goal [
       | true ↦ omega (arith, length-cuts [] ms)
       | false ↦ omega (arith, length-cuts (p ++ b ∷ []) ms, length-append p (b ∷ []))
     ]
 length-cuts p (EndSign ∷ ms) = omega (arith, length-cuts [] ms)
-length-cuts p (AbortSign ∷ ms) = omega (arith, length-cuts [] ms, length-singles p, length-append (singles p) (cuts [] ms))
+length-cuts p (AbortSign ∷ ms) = omega (
+  arith,
+  length-cuts [] ms,
+  length-singles p,
+  length-append (singles p) (cuts [] ms),
+)

@@ -19,26 +19,26 @@ use Rattle.mb_stream.specs.Order.{in_order}
 use Rattle.mb_stream.specs.Reading.{Part, part_of, payload_told, end_part}
 
 -- A packet at its offset: its first byte, and what stands of the other three.
-pub record Packet : Type 0 where
+pub record EventPacket : Type 0 where
   pub at : ℕ
   pub head : ℕ
   pub rest : List ℕ
 
 -- section 4: the cable number is the high half of the first byte, the code index number the low half
-abbrev pub cable_of : Packet → ℕ
+abbrev pub cable_of : EventPacket → ℕ
 cable_of p = p.head / 16
 
-abbrev pub cin_of : Packet → ℕ
+abbrev pub cin_of : EventPacket → ℕ
 cin_of p = p.head % 16
 
 -- the list cut into fours, the last of them perhaps unfinished
-abbrev pub packets_from : (at : ℕ) → List ℕ → List Packet
+abbrev pub packets_from : (at : ℕ) → List ℕ → List EventPacket
 packets_from at [] = []
 packets_from at (h ∷ a ∷ b ∷ c ∷ bs) =
     record { at = at; head = h; rest = a ∷ b ∷ c ∷ [] } ∷ packets_from (at + 4) bs
 packets_from at (h ∷ bs) = record { at = at; head = h; rest = bs } ∷ []
 
-abbrev pub packets : List ℕ → List Packet
+abbrev pub packets : List ℕ → List EventPacket
 packets bytes = packets_from 0 bytes
 
 -- table 4-1, "MIDI_x Size": how many of the other three bytes a code index number uses
@@ -48,11 +48,11 @@ used n =
     else (if (n == 5) || (n == 15) then 1 else (if (n == 2) || (n == 6) || (n == 12) || (n == 13) then 2 else 3))
 
 -- the bytes that a packet carries: of an unfinished one, those that stand there
-abbrev pub carried : Packet → List Entry
-carried p = heard_from (p.at + 1) 0 (take (used (cin_of p)) p.rest)
+abbrev pub heard_in : EventPacket → List Entry
+heard_in p = heard_from (p.at + 1) 0 (take (used (cin_of p)) p.rest)
 
 abbrev pub cable_payload : (cable : ℕ) → List ℕ → List Entry
-cable_payload cable bytes = flat_map (λ p. if cable_of p == cable then carried p else []) (packets bytes)
+cable_payload cable bytes = flat_map (λ p. if cable_of p == cable then heard_in p else []) (packets bytes)
 
 abbrev pub starts_or_goes_on : ℕ → Bool
 starts_or_goes_on b = (b == 0xf0) || is_data b
@@ -74,11 +74,11 @@ abbrev pub suits_rest : (cin : ℕ) → List ℕ → Bool
 suits_rest n (a ∷ b ∷ c ∷ []) = suits_cin n a b c
 suits_rest n _ = true
 
-abbrev pub suits_packet : Packet → Bool
+abbrev pub suits_packet : EventPacket → Bool
 suits_packet p = suits_rest (cin_of p) p.rest
 
 -- A reserved code index number is known at the packet's first byte, bytes that don't suit theirs at its fourth.
-abbrev pub unit_note : Packet → List Known
+abbrev pub unit_note : EventPacket → List Known
 unit_note p =
     if nat_le (cin_of p) 1 then record { at = p.at; rank = 4; moment = 0; told = Notes p.at ReservedCin } ∷ []
     else (if suits_packet p then []

@@ -1,4 +1,5 @@
-use Rattle.std.proofs.Common.{◌≡◌, ℕ, ◌+◌, ◌*◌, ◌<◌, ◌≤◌, false, List, ◌++◌, ◌==◌, length, take, drop, sym, ap, ap₂, ◌∙◌, append_assoc, arith}
+use Rattle.std.proofs.Common.{◌≡◌, ℕ, ◌+◌, ◌*◌, ◌<◌, ◌≤◌, false, List, ◌++◌, ◌==◌, length, take, drop, sym, ap, ap₂}
+use Rattle.std.proofs.Common.{◌∙◌, append_assoc, arith}
 use Rattle.std.proofs.lemmas.Bool.Decides.{nat_tests}
 use Rattle.std.proofs.lemmas.List.{take-append-drop}
 use Rattle.arrayvec.specs.ArrayVec.{array_vec_len}
@@ -8,8 +9,10 @@ use Rattle.mb_calls.proofs.usb_writer.put_all.Goals as goal
 parts_of : (n : ℕ) (front back whole : List ℕ) → front ≡ take n whole → back ≡ drop n whole → front ++ back ≡ whole
 parts_of n front back whole f b = ap₂ (λ xs ys. xs ++ ys) f b ∙ take-append-drop n whole
 
-more_taken : (taken front back rest bytes : List ℕ) → front ++ back ≡ rest → taken ++ rest ≡ bytes → (taken ++ front) ++ back ≡ bytes
-more_taken taken front back rest bytes whole so_far = append_assoc taken front back ∙ ap (λ xs. taken ++ xs) whole ∙ so_far
+more_taken : (taken front back rest bytes : List ℕ) → front ++ back ≡ rest → taken ++ rest ≡ bytes → (taken ++ front) ++
+    back ≡ bytes
+more_taken taken front back rest bytes whole so_far = append_assoc taken front back ∙ ap (λ xs. taken ++ xs) whole ∙
+    so_far
 
 room_left : (out new front back rest : ℕ) → front + back ≡ rest → 0 < front → new ≤ out + 24 → out + 24 * rest ≤ 1024 →
     new + 24 * back ≤ 1024
@@ -29,13 +32,17 @@ pieces-preserved c =
     let taken = c.pieces.invariant.so_far.0 in
     record {
       room = room_left (array_vec_len c.pieces.out) (array_vec_len c.put.new.out) (length c.split_at.result.0.now)
-          (length c.split_at.result.1.now) (length c.pieces.rest.now) (omega arith) (omega arith) c.put.ensures.len c.pieces.invariant.room;
+          (length c.split_at.result.1.now) (length c.pieces.rest.now) (omega arith) (omega arith) c.put.ensures.len
+          c.pieces.invariant.room;
       opened = c.put.ensures.in_sysex ∙ c.pieces.invariant.opened;
-      run = (parts_pass c.pieces.rest.now c.split_at.result.0.now c.split_at.result.1.now whole c.pieces.invariant.run).1;
+      run = (parts_pass c.pieces.rest.now c.split_at.result.0.now c.split_at.result.1.now whole
+          c.pieces.invariant.run).1;
       so_far = (
         taken ++ c.split_at.result.0.now,
         more_taken taken _ _ _ _ whole c.pieces.invariant.so_far.1,
-        Sofar-more c.args.writer.now c.pieces.writer c.put.new.self c.args.out.now.items c.pieces.out.items c.put.new.out.items
-            taken c.split_at.result.0.now c.pieces.invariant.so_far.2 c.put.ensures.cable c.put.ensures.stands c.put.ensures.written,
+        Sofar-more c.args.writer.now c.pieces.writer c.put.new.self c.args.out.now.items c.pieces.out.items
+            c.put.new.out.items
+            taken c.split_at.result.0.now c.pieces.invariant.so_far.2 c.put.ensures.cable c.put.ensures.stands
+            c.put.ensures.written,
       );
     }

@@ -10,7 +10,8 @@ invariant-pieces l = record {
   room : array_vec_len l.out + 24 * length l.rest ≤ 1024;
   opened : l.writer.in_sysex ≡ true;
   run : list_all is_data l.rest ≡ true;
-  so_far : (taken : List ℕ) × (taken ++ l.rest ≡ l.bytes) × Sofar l.initial.writer l.writer l.initial.out.items l.out.items taken;
+  so_far : (taken : List ℕ) × (taken ++ l.rest ≡ l.bytes) × Sofar l.initial.writer l.writer l.initial.out.items
+      l.out.items taken;
 }
 
 abbrev pub decreases-pieces : goal.decreases-pieces

@@ -10,19 +10,26 @@ pub returns-then-not-may_stand-clause-left : goal.returns-then-not-may_stand-cla
 returns-then-not-may_stand-clause-left g c = λ moments bytes puts base f.
     flows-owes _ _ moments _ c.args.apart c.args.at _ _ bytes _ _ _ puts base _
     (ap (puts_at (g.R.EventReader.moment c.next.new.self c.args.moment)) (sym c.event_of.ensures.signs))
-    (flows-seen _ _ _ moments _ c.args.apart c.args.at _ _ _ _ bytes _ _ puts base _ c.in-Some.seen c.events.invariant.reads c.in-Some.ensures.goes (c.events.invariant.flows moments bytes puts base f))
+    (flows-seen _ _ _ moments _ c.args.apart c.args.at _ _ _ _ bytes _ _ puts base _ c.in-Some.seen
+    c.events.invariant.reads c.in-Some.ensures.goes (c.events.invariant.flows moments bytes puts base f))
 
 pub put_seen-requires-clause-suits : goal.put_seen-requires-clause-suits
 put_seen-requires-clause-suits g c =
     let w = c.requires.flows in
-    let more = flows-seen _ _ _ w.0 _ c.args.apart c.args.at _ _ _ _ w.1 _ _ w.2 w.3 _ c.in-Some.seen c.events.invariant.reads c.in-Some.ensures.goes (c.events.invariant.flows w.0 w.1 w.2 w.3 w.4) in
+    let more = flows-seen _ _ _ w.0 _ c.args.apart c.args.at _ _ _ _ w.1 _ _ w.2 w.3 _ c.in-Some.seen
+    c.events.invariant.reads c.in-Some.ensures.goes (c.events.invariant.flows w.0 w.1 w.2 w.3 w.4) in
     flows-may_come _ _ _ _ _ _ _ _ _ _ _ _ _ c.in-Some.seen
-    (record { stays = g.met.R.EventReader.stays c.args.reader.now; ends = g.met.R.EventReader.ends c.args.reader.now; suits = g.met.R.EventReader.suits c.args.reader.now })
+    (record {
+      stays = g.met.R.EventReader.stays c.args.reader.now;
+      ends = g.met.R.EventReader.ends c.args.reader.now;
+      suits = g.met.R.EventReader.suits c.args.reader.now;
+    })
     (λ puts stands. g.met.W.EventWriter.open_now c.events.writer puts stands) more.2
 
 pub returns-then-not-put_seen-clause-left : goal.returns-then-not-put_seen-clause-left
 returns-then-not-put_seen-clause-left g c = λ moments bytes puts base f.
-    flows-step _ _ _ _ moments _ c.args.apart c.args.at _ _ _ _ _ _ bytes _ _ _ puts base _ _ c.in-Some.seen c.events.invariant.reads c.events.invariant.writes c.moment-now.ensures (c.if-not-may_stand.ensures refl)
+    flows-step _ _ _ _ moments _ c.args.apart c.args.at _ _ _ _ _ _ bytes _ _ _ puts base _ _ c.in-Some.seen
+    c.events.invariant.reads c.events.invariant.writes c.moment-now.ensures (c.if-not-may_stand.ensures refl)
     c.in-Some.ensures.goes c.put_seen.ensures.put (c.events.invariant.flows moments bytes puts base f)
 
 pub events-preserved : goal.events-preserved
@@ -38,11 +45,13 @@ events-preserved g c =
           flows-empty _ _ moments _ c.args.apart c.args.at _ _ bytes _
           (g.R.EventReader.moment c.next.new.self c.args.moment) c.put_seen.new.run.now puts base _
           (c.if-not-put_seen.ensures.empty refl)
-          (flows-step _ _ _ _ moments _ c.args.apart c.args.at _ _ _ _ _ _ bytes _ _ _ puts base _ _ c.in-Some.seen c.events.invariant.reads c.events.invariant.writes c.moment-now.ensures (c.if-not-may_stand.ensures refl)
+          (flows-step _ _ _ _ moments _ c.args.apart c.args.at _ _ _ _ _ _ bytes _ _ _ puts base _ _ c.in-Some.seen
+          c.events.invariant.reads c.events.invariant.writes c.moment-now.ensures (c.if-not-may_stand.ensures refl)
           c.in-Some.ensures.goes c.put_seen.ensures.put (c.events.invariant.flows moments bytes puts base f));
     }
 
 pub returns-clause-done : goal.returns-clause-done
 returns-clause-done g c = λ moments bytes puts base f.
-    flows-done _ _ _ moments _ c.args.apart c.args.at _ _ _ _ bytes _ _ puts base _ c.events.invariant.reads c.in_default.ensures.goes c.in_default.ensures.all_told c.in_default.ensures.none
+    flows-done _ _ _ moments _ c.args.apart c.args.at _ _ _ _ bytes _ _ puts base _ c.events.invariant.reads
+    c.in_default.ensures.goes c.in_default.ensures.all_told c.in_default.ensures.none
     (c.events.invariant.flows moments bytes puts base f)

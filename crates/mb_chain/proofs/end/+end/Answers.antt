@@ -34,7 +34,8 @@ overflow_add-hop-2 g t c =
       c.len.ensures.value,
       c.len-2.ensures.value,
       last-small _ _ _ _ _ _ (closing _ _ _
-          (WriterStands c.put_last-at.new.writer) _ _ _ _ c.put_last-at.ensures.writes c.put_last-at.ensures.put c.new-rest.ensures c.finish.ensures.written)
+          (WriterStands c.put_last-at.new.writer) _ _ _ _ c.put_last-at.ensures.writes c.put_last-at.ensures.put
+          c.new-rest.ensures c.finish.ensures.written)
           (first-end _ _ _ c.in-Some.ensures.cases.0 c.requires.stands),
     )
 
@@ -42,7 +43,8 @@ pub flow-requires-2-clause-stands : goal.flow-requires-2-clause-stands
 flow-requires-2-clause-stands g t c =
     may-links _ _ _ _ _ _ c.flow.ensures.links c.as_slice-2.ensures.value
     (rest-may _ _ _ _ _ _ _ _ (closing _ _ _
-    (WriterStands c.put_last-at.new.writer) _ _ _ _ c.put_last-at.ensures.writes c.put_last-at.ensures.put c.new-rest.ensures c.finish.ensures.written)
+    (WriterStands c.put_last-at.new.writer) _ _ _ _ c.put_last-at.ensures.writes c.put_last-at.ensures.put
+    c.new-rest.ensures c.finish.ensures.written)
     (fed-links _ _ _ _ _ _ _ _ refl c.as_slice.ensures.value c.in_default-flow.ensures.fed)
     (first-end _ _ _ c.in-Some.ensures.cases.0 c.requires.stands))
 
@@ -50,7 +52,8 @@ pub returns-in-Err-flow-clause-halted : goal.returns-in-Err-flow-clause-halted
 returns-in-Err-flow-clause-halted g t c =
     first-end_halted _ _ _ _ c.in-Some.ensures.cases.0
     (end-halted_rest _ _ _ _ _ _ _ _ _ _ (λ x y. g.met.K.Out.both _ _ _ x y)
-    (closing _ _ _ (WriterStands c.put_last-at.new.writer) _ _ _ _ c.put_last-at.ensures.writes c.put_last-at.ensures.put c.new-rest.ensures c.finish.ensures.written)
+    (closing _ _ _ (WriterStands c.put_last-at.new.writer) _ _ _ _ c.put_last-at.ensures.writes
+    c.put_last-at.ensures.put c.new-rest.ensures c.finish.ensures.written)
     (fed-links _ _ _ _ _ _ _ _ refl c.as_slice.ensures.value c.in_default-flow.ensures.fed)
     (halted-links _ _ _ _ _ _ _ c.flow.ensures.links c.as_slice-2.ensures.value c.in-Err-flow.ensures.halted))
 
@@ -58,7 +61,8 @@ pub end-requires : goal.end-requires
 end-requires g t c κs within =
     let stands =
     end-may _ _ _ _ _ _ _ _ _ _ (closing _ _ _
-    (WriterStands c.put_last-at.new.writer) _ _ _ _ c.put_last-at.ensures.writes c.put_last-at.ensures.put c.new-rest.ensures c.finish.ensures.written)
+    (WriterStands c.put_last-at.new.writer) _ _ _ _ c.put_last-at.ensures.writes c.put_last-at.ensures.put
+    c.new-rest.ensures c.finish.ensures.written)
     (fed-links _ _ _ _ _ _ _ _ refl c.as_slice.ensures.value c.in_default-flow.ensures.fed)
     (fed-links _ _ _ _ _ _ _ _ c.flow.ensures.links c.as_slice-2.ensures.value c.in_default-flow-2.ensures.fed)
     (first-end _ _ _ c.in-Some.ensures.cases.0 c.requires.stands) in (
@@ -77,11 +81,18 @@ pub returns-clause-ended : goal.returns-clause-ended
 returns-clause-ended g t c =
     on_ok_weaker _
     (λ ended. first-ended _ _ _ _ _ c.in-Some.ensures.cases.0
-    (end-ended _ _ (record { reader = c.put_last-at.new.reader; writer = c.finish.new.self; last = c.in-Some.hop.now.last; wrote = c.in-Some.hop.now.wrote + c.len.result + c.len-2.result }) _ _ _ _ _ _ _ _ _ _ _
+    (end-ended _ _ (record {
+      reader = c.put_last-at.new.reader;
+      writer = c.finish.new.self;
+      last =
+          c.in-Some.hop.now.last;
+      wrote = c.in-Some.hop.now.wrote + c.len.result + c.len-2.result;
+    }) _ _ _ _ _ _ _ _ _ _ _
     (λ x y z a b d. g.met.K.Out.both _ _ _ _ _ a (g.met.K.Out.both _ _ _ _ _ b d))
     c.put_last-at.ensures.reads (c.finish.ensures.spec ∙ c.put_last-at.ensures.writes)
     (omega (arith, c.len.ensures.value, c.len-2.ensures.value))
-    (closing _ _ _ (WriterStands c.put_last-at.new.writer) _ _ _ _ c.put_last-at.ensures.writes c.put_last-at.ensures.put c.new-rest.ensures c.finish.ensures.written)
+    (closing _ _ _ (WriterStands c.put_last-at.new.writer) _ _ _ _ c.put_last-at.ensures.writes
+    c.put_last-at.ensures.put c.new-rest.ensures c.finish.ensures.written)
     (fed-links _ _ _ _ _ _ _ _ refl c.as_slice.ensures.value c.in_default-flow.ensures.fed)
     (fed-links _ _ _ _ _ _ _ _ c.flow.ensures.links c.as_slice-2.ensures.value c.in_default-flow-2.ensures.fed)
     (ended-links _ _ _ _ _ (c.flow-2.ensures.links ∙ c.flow.ensures.links) ended)))
@@ -93,7 +104,8 @@ returns-clause-halted g t c =
     (λ halted. first-end_halted _ _ _ _ c.in-Some.ensures.cases.0
     (end-halted_behind _ _ _ _ _ _ _ _ _ _ _ _
     (λ x y z a b d. g.met.K.Out.both _ _ _ _ _ a (g.met.K.Out.both _ _ _ _ _ b d))
-    (closing _ _ _ (WriterStands c.put_last-at.new.writer) _ _ _ _ c.put_last-at.ensures.writes c.put_last-at.ensures.put c.new-rest.ensures c.finish.ensures.written)
+    (closing _ _ _ (WriterStands c.put_last-at.new.writer) _ _ _ _ c.put_last-at.ensures.writes
+    c.put_last-at.ensures.put c.new-rest.ensures c.finish.ensures.written)
     (fed-links _ _ _ _ _ _ _ _ refl c.as_slice.ensures.value c.in_default-flow.ensures.fed)
     (fed-links _ _ _ _ _ _ _ _ c.flow.ensures.links c.as_slice-2.ensures.value c.in_default-flow-2.ensures.fed)
     (end_halted-links _ _ _ _ (c.flow-2.ensures.links ∙ c.flow.ensures.links) halted)))

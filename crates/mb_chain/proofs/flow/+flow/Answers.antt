@@ -34,7 +34,8 @@ overflow_add-hop g t c =
       driving-small _ _ _ _ _ _ _ _ _ _ _ _ c.args.moment _ _ _ _ _ _ _
           (way-goes _ _ _ _ (reader_moment c.buffers.hop.reader) _ (ReaderStands c.buffers.hop.reader) _
           (WriterStands c.buffers.hop.writer) _ _ _ _
-          (Some c.in-Some-left.piece) _ _ _ c.buffers.invariant.reads c.buffers.invariant.writes c.new-held.ensures c.moment-at.ensures c.fill_hop-left.ensures.goes_on)
+          (Some c.in-Some-left.piece) _ _ _ c.buffers.invariant.reads c.buffers.invariant.writes c.new-held.ensures
+          c.moment-at.ensures c.fill_hop-left.ensures.goes_on)
           (driving-left _ _ _ _ _ _ _ _ _ _ _ _ _ _ c.in-Some-left.is c.buffers.invariant.driving)
           (first-may _ _ _ _ _ c.in-Some.ensures.cases.0 c.requires.stands),
     )
@@ -46,7 +47,8 @@ flow-requires g t c κs within =
     (driving-may _ _ _ _ _ _ _ _ _ _ _ _ c.args.moment _ _ _ _ _ _ _ (apart-by _ _ c.is_empty-apart.ensures)
     (way-goes _ _ _ _ (reader_moment c.buffers.hop.reader) _ (ReaderStands c.buffers.hop.reader) _
     (WriterStands c.buffers.hop.writer) _ _ _ _
-    (Some c.in-Some-left.piece) _ _ _ c.buffers.invariant.reads c.buffers.invariant.writes c.new-held.ensures c.moment-at.ensures c.fill_hop-left.ensures.goes_on)
+    (Some c.in-Some-left.piece) _ _ _ c.buffers.invariant.reads c.buffers.invariant.writes c.new-held.ensures
+    c.moment-at.ensures c.fill_hop-left.ensures.goes_on)
     (driving-left _ _ _ _ _ _ _ _ _ _ _ _ _ _ c.in-Some-left.is c.buffers.invariant.driving)
     (first-may _ _ _ _ _ c.in-Some.ensures.cases.0 c.requires.stands)) in
     (search rules, (within, (c.buffers.invariant.ready, stands)))
@@ -58,7 +60,8 @@ returns-in-Err-clause-halted g t c =
     (apart-by _ _ c.is_empty-apart.ensures)
     (way-goes _ _ _ _ (reader_moment c.buffers.hop.reader) _ (ReaderStands c.buffers.hop.reader) _
     (WriterStands c.buffers.hop.writer) _ _ _ _
-    (Some c.in-Some-left.piece) _ _ _ c.buffers.invariant.reads c.buffers.invariant.writes c.new-held.ensures c.moment-at.ensures c.fill_hop-left.ensures.goes_on)
+    (Some c.in-Some-left.piece) _ _ _ c.buffers.invariant.reads c.buffers.invariant.writes c.new-held.ensures
+    c.moment-at.ensures c.fill_hop-left.ensures.goes_on)
     (driving-left _ _ _ _ _ _ _ _ _ _ _ _ _ _ c.in-Some-left.is c.buffers.invariant.driving)
     (halted-links _ _ _ _ _ _ _ c.buffers.invariant.links c.as_slice.ensures.value c.in-Err.ensures.halted))
 
@@ -78,7 +81,8 @@ buffers-preserved g t c =
           (apart-by _ _ c.is_empty-apart.ensures)
           (way-goes _ _ _ _ (reader_moment c.buffers.hop.reader) _ (ReaderStands c.buffers.hop.reader) _
           (WriterStands c.buffers.hop.writer) _ _ _ _
-          (Some c.in-Some-left.piece) _ _ _ c.buffers.invariant.reads c.buffers.invariant.writes c.new-held.ensures c.moment-at.ensures c.fill_hop-left.ensures.goes_on)
+          (Some c.in-Some-left.piece) _ _ _ c.buffers.invariant.reads c.buffers.invariant.writes c.new-held.ensures
+          c.moment-at.ensures c.fill_hop-left.ensures.goes_on)
           (omega (arith, c.len.ensures.value)) c.fill_hop-left.ensures.offset
           (driving-left _ _ _ _ _ _ _ _ _ _ _ _ _ _ c.in-Some-left.is c.buffers.invariant.driving)
           (fed-links _ _ _ _ _ _ _ _ c.buffers.invariant.links c.as_slice.ensures.value c.in_default-flow.ensures.fed);

@@ -7,7 +7,7 @@ use Rattle.mb_fire.specs.State.{is_of_port}
 use Rattle.mb_fire.proofs.OnlyPort.{begins, is-of, then-due, then-pass, then-carry, then-none, tells-literal, tolds}
 use Rattle.mb_fire.proofs.OnlyPort.{all_told-literal, undue-behind, pass-behind, carry-behind, carry-owed, due-owed}
 use Rattle.mb_fire.proofs.OnlyPort.{due-same, shorter, falls}
-use Rattle.mb_fire.specs.declared.under.Packet.{Packet}
+use Rattle.mb_fire.specs.declared.under.Packets.{Packets}
 use Rattle.mb_fire.proofs.PassedSteps.{then-over, over-behind, over-ends}
 use Rattle.mb_fire.proofs.Steps.{undue}
 use Rattle.mb_fire.proofs.HandsLemmas.{taken-fits}
@@ -161,7 +161,7 @@ bytes-preserved-in-Some-pass_whole c =
         arith,
         over-ends c.args.own c.take_due.new.self c.pass_whole.new.packet c.bytes.input.now
             c.in-Some-pass_whole.left.now over,
-        ap (λ (p : Packet). p.offset) c.take_due.ensures.told,
+        ap (λ (p : Packets). p.offset) c.take_due.ensures.told,
         c.bytes.invariant.ends,
       );
       shrinks = omega (arith, less, c.bytes.invariant.shrinks);

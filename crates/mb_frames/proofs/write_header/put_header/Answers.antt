@@ -8,6 +8,8 @@ returns-clause-written c =
     c.push-3.ensures.items ∙
     (ap (λ z. z ++ (c.args.len % 256) ∷ []) c.push-2.ensures.items ∙
     (ap (λ z. z ++ (c.args.len / 256) ∷ [] ++ (c.args.len % 256) ∷ []) c.push.ensures.items ∙
-    (ap (λ z. z ++ c.args.track ∷ [] ++ (c.args.len / 256) ∷ [] ++ (c.args.len % 256) ∷ []) c.put_eight.ensures.written ∙
+    (ap (λ z. z ++ c.args.track ∷ [] ++ (c.args.len / 256) ∷ [] ++ (c.args.len % 256) ∷ [])
+    c.put_eight.ensures.written ∙
     (three-more c.args.out.now.items (spelled 8 c.args.moment) c.args.track (c.args.len / 256) (c.args.len % 256) ∙
-    ap (λ z. c.args.out.now.items ++ (spelled 8 c.args.moment ++ c.args.track ∷ z)) (two-bytes c.args.len (omega arith))))))
+    ap (λ z. c.args.out.now.items ++ (spelled 8 c.args.moment ++ c.args.track ∷ z))
+    (two-bytes c.args.len (omega arith))))))

@@ -14,4 +14,5 @@ loop-out-preserved c =
     )
 
 pub returns : goal.returns
-returns c = sixteen c.loop-out.outs (λ out. stands_in (c.args.source, out) c.args.routes.now) c.loop-out.invariant.0 (λ k below. c.loop-out.invariant.1 k (omega arith))
+returns c = sixteen c.loop-out.outs (λ out. stands_in (c.args.source, out) c.args.routes.now) c.loop-out.invariant.0
+    (λ k below. c.loop-out.invariant.1 k (omega arith))

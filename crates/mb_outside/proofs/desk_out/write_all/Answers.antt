@@ -7,5 +7,6 @@ pub writes-preserved : goal.writes-preserved
 writes-preserved g c =
     record {
       sound = c.in-Ok.ensures.sound ∙ c.writes.invariant.sound;
-      wrote = Wrote-more _ _ _ _ _ _ _ _ _ _ c.in-Ok.count c.writes.invariant.wrote (grind (arith, common_steps)) c.in-Ok.ensures.contents c.write.ensures.read_faults;
+      wrote = Wrote-more _ _ _ _ _ _ _ _ _ _ c.in-Ok.count c.writes.invariant.wrote (grind (arith, common_steps))
+          c.in-Ok.ensures.contents c.write.ensures.read_faults;
     }

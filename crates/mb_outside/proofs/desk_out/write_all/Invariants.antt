@@ -8,7 +8,8 @@ invariant-writes g l =
     let D = g.D.Desk in
     record {
       sound : D.write_faults l.desk ≡ D.write_faults l.initial.desk;
-      wrote : (done : List ℕ) × (l.piece ≡ done ++ l.rest) × Wrote D.tells D.contents D.read_faults l.h l.initial.desk done l.desk;
+      wrote : (done : List ℕ) × (l.piece ≡ done ++ l.rest) × Wrote D.tells D.contents D.read_faults l.h l.initial.desk
+          done l.desk;
     }
 
 abbrev pub decreases-writes : goal.decreases-writes

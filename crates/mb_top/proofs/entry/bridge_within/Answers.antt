@@ -119,7 +119,8 @@ pub returns-clause-reads_all : goal.returns-clause-reads_all
 returns-clause-reads_all g c = λ command s tells m reads unhindered short unwanted.
     ap read_all c.code.ensures
     ∙ reads_all _ _ _ _ _ _ c.run-status.result command m c.run-status.ensures.may unwanted
-    (λ e. (read_faults _ _ _ _ _ c.run-status.result _ c.code.ensures c.say.ensures.reads c.run-status.ensures.faults).0 (c.code.ensures ∙ ap code_of e))
+    (λ e. (read_faults _ _ _ _ _ c.run-status.result _ c.code.ensures c.say.ensures.reads c.run-status.ensures.faults).0
+    (c.code.ensures ∙ ap code_of e))
     (λ e. write_fault _ _ _ _ _ c.run-status.result _ c.code.ensures c.say.ensures.writes c.run-status.ensures.faults
     (c.code.ensures ∙ ap code_of e))
     unhindered.reading unhindered.writing short (c.run-status.ensures.ran tells)
@@ -140,7 +141,8 @@ returns-clause-read_fault_told g c =
     (read_faults _ _ _ _ _ c.run-status.result _ c.code.ensures c.say.ensures.reads c.run-status.ensures.faults).1
 
 pub returns-clause-write_fault : goal.returns-clause-write_fault
-returns-clause-write_fault g c = write_fault _ _ _ _ _ c.run-status.result _ c.code.ensures c.say.ensures.writes c.run-status.ensures.faults
+returns-clause-write_fault g c = write_fault _ _ _ _ _ c.run-status.result _ c.code.ensures c.say.ensures.writes
+    c.run-status.ensures.faults
 
 pub returns-clause-write_fault_told : goal.returns-clause-write_fault_told
 returns-clause-write_fault_told g c =

@@ -9,7 +9,8 @@ crossed-requires g c = grind (arith, common_steps, hops-count _ _ c.requires.cha
 
 pub returns-in-Err-clause-halted : goal.returns-in-Err-clause-halted
 returns-in-Err-clause-halted g c =
-    told-halted _ _ c.specs.at c.crossed.result _ _ c.as_slice.result.now c.in-Err.ensures.front.0 _ _ _ c.requires.chain (grind (arith, common_steps)) refl c.crossed.ensures.whole
+    told-halted _ _ c.specs.at c.crossed.result _ _ c.as_slice.result.now c.in-Err.ensures.front.0 _ _ _
+    c.requires.chain (grind (arith, common_steps)) refl c.crossed.ensures.whole
     (c.as_slice.ensures.value ∙ c.hop_line.ensures.line) c.in-Err.ensures.front.1 c.in-Err.ensures.front.2
     (λ x y. g.met.K.Out.both _ _ _ x y) c.specs.invariant.told
 

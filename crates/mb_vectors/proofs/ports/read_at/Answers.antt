@@ -7,4 +7,5 @@ read_piece-requires c =
     record { early = omega (arith, ap reader_offset_by c.set_moment.ensures.same, c.requires.early) }
 
 pub returns-clause-end : goal.returns-clause-end
-returns-clause-end c = c.read_piece.ensures.end ∙ ap (λ n. n + length c.args.piece.now) (ap reader_offset_by c.set_moment.ensures.same)
+returns-clause-end c = c.read_piece.ensures.end ∙ ap (λ n. n + length c.args.piece.now)
+    (ap reader_offset_by c.set_moment.ensures.same)

@@ -8,7 +8,8 @@ pub returns-in_err-specs-clause-only : goal.returns-in_err-specs-clause-only
 returns-in_err-specs-clause-only c =
     if_none _ _ c.from_residual.ensures
     (λ command m.
-    let conversion = only_conversion _ c.asks_tally-tally.result command c.requires c.asks_tally-tally.ensures.yes c.asks_tally-tally.ensures.no m in
+    let conversion = only_conversion _ c.asks_tally-tally.result command c.requires c.asks_tally-tally.ensures.yes
+    c.asks_tally-tally.ensures.no m in
     c.in_err-specs.ensures.only conversion.specs conversion.some conversion.few
     (subst (λ (n : ℕ). AreWordsOf (drop n c.args.words.now) conversion.specs)
     (sym c.place_of_specs.ensures) conversion.are))

@@ -9,11 +9,15 @@ use Rattle.mb_ble.proofs.position.Position.end.Goals as goal
 
 pub returns-clause-tells : goal.returns-clause-tells
 returns-clause-tells c = λ input.
-    end_groups_tells c.args.self.now _ input _ _ c.requires.fit (ap is_at_end c.requires.end) c.in_default.ensures.none.1 (subst (λ z. EndedBy z c.end_groups.new.self (answer c.end_groups.result)) c.in_default.ensures.none.0 c.end_groups.ensures.ended) c.leave.ensures.place
+    end_groups_tells c.args.self.now _ input _ _ c.requires.fit (ap is_at_end c.requires.end)
+    c.in_default.ensures.none.1 (subst (λ z. EndedBy z c.end_groups.new.self (answer c.end_groups.result))
+    c.in_default.ensures.none.0 c.end_groups.ensures.ended) c.leave.ensures.place
     (ap (λ z. z.moment) c.end_groups.ensures.clock ∙ ap (λ (k : Content). k.clock.moment) c.in_default.ensures.none.0)
 
 pub returns-in-Some-clause-tells : goal.returns-in-Some-clause-tells
-returns-in-Some-clause-tells c = λ input. end_stamp_tells c.args.self.now _ input c.in-Some.ensures.some.0 _ _ c.requires.fit (ap is_at_end c.requires.end) c.in-Some.ensures.some.1 c.in-Some.ensures.some.3 refl (ap (λ (k : Content). k.clock.moment) c.in-Some.ensures.some.3)
+returns-in-Some-clause-tells c = λ input. end_stamp_tells c.args.self.now _ input c.in-Some.ensures.some.0 _ _
+    c.requires.fit (ap is_at_end c.requires.end) c.in-Some.ensures.some.1 c.in-Some.ensures.some.3 refl
+    (ap (λ (k : Content). k.clock.moment) c.in-Some.ensures.some.3)
     (ap (map (λ t. record { moment = c.end_stamp.new.self.clock.moment; told = t })) c.in-Some.ensures.some.2)
 
 pub returns-in-Some-clause-longest : goal.returns-in-Some-clause-longest

@@ -10,7 +10,8 @@ specs-preserved c =
     let left : IsSpec c.in-Some.next.now ×
     AreSpecs c.in-Some.others.now = subst AreSpecs c.in-Some.ensures.cases.0 c.specs.invariant.rest in
     record {
-      links = links-next _ _ _ _ _ _ _ _ c.push.ensures.items c.in-Some.ensures.cases.0 c.in-Ok.ensures.ok.0 c.specs.invariant.links;
+      links = links-next _ _ _ _ _ _ _ _ c.push.ensures.items c.in-Some.ensures.cases.0 c.in-Ok.ensures.ok.0
+          c.specs.invariant.links;
       fresh = subst AllFresh (sym c.push.ensures.items) (fresh-push _ _ c.specs.invariant.fresh c.in-Ok.ensures.ok.1);
       room = omega (arith, c.push.ensures.len, c.in-Some.ensures.cases.1, c.specs.invariant.room);
       first = left.0;

@@ -13,5 +13,6 @@ pub invariant_of-result : goal.invariant_of-result
 invariant_of-result c =
     let are = counts c.args.sources c.args.outs c.args.routes.now (sym c.first_fault.ensures ∙ c.in_default.is) in
     let len : length c.in-Ok.sources.items ≡ c.args.sources =
-    ap length c.in-Ok.ensures ∙ length-map-range_with_len (λ source. closed_link (outs_of source c.args.routes.now)) 0 c.args.sources in
+    ap length c.in-Ok.ensures ∙ length-map-range_with_len (λ source. closed_link (outs_of source c.args.routes.now)) 0
+    c.args.sources in
     (omega (arith, len, are.0), are.1, tt)

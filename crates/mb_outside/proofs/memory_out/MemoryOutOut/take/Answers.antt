@@ -8,6 +8,18 @@ returns-then-count-piece-clause-front c =
     let count = c.min-count.result in
     let front = take count c.args.piece.now in (
       front,
-      (drop count c.args.piece.now, sym (take-append-drop count c.args.piece.now), grind (arith, common_steps, length-drop count c.args.piece.now)),
-      record { list = grind (arith, common_steps, c.append.ensures.all, c.self.view_is); room = grind (arith, common_steps, c.self.view_is) },
+      (
+        drop count c.args.piece.now,
+        sym (take-append-drop count c.args.piece.now),
+        grind (
+          arith,
+          common_steps,
+          length-drop count c.args.piece.now,
+        ),
+      ),
+      record {
+        list = grind (arith, common_steps, c.append.ensures.all, c.self.view_is);
+        room =
+            grind (arith, common_steps, c.self.view_is);
+      },
     )

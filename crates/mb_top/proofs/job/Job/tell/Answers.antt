@@ -3,8 +3,10 @@ use Rattle.mb_top.proofs.job.Job.tell.Goals as goal
 
 pub returns-then-tally-clause-told : goal.returns-then-tally-clause-told
 returns-then-tally-clause-told g c =
-    job-told _ _ _ _ _ _ _ c.in-Convert.is c.if-tally.true c.requires.done c.as_slice.ensures.value c.tell_tally.ensures.told
+    job-told _ _ _ _ _ _ _ c.in-Convert.is c.if-tally.true c.requires.done c.as_slice.ensures.value
+    c.tell_tally.ensures.told
 
 pub returns-then-tally-clause-halted : goal.returns-then-tally-clause-halted
 returns-then-tally-clause-halted g c =
-    job-told_part _ _ _ _ _ _ _ c.in-Convert.is c.if-tally.true c.requires.done c.as_slice.ensures.value c.tell_tally.ensures.halted
+    job-told_part _ _ _ _ _ _ _ c.in-Convert.is c.if-tally.true c.requires.done c.as_slice.ensures.value
+    c.tell_tally.ensures.halted

@@ -8,4 +8,5 @@ use Rattle.mb_usb.proofs.reader.UsbReader.new.Goals as goal
 pub returns-clause-stands : goal.returns-clause-stands
 returns-clause-stands c =
     new-stands c.new.result c.from_fn.result c.new.ensures
-    (λ i low. let k = c.from_fn.ensures.items.at i fresh low in let e : reader_at c.from_fn.result i ≡ fresh = search of_calls in new_stands (reader_at c.from_fn.result i) e)
+    (λ i low. let k = c.from_fn.ensures.items.at i fresh low in let e : reader_at c.from_fn.result i ≡ fresh =
+    search of_calls in new_stands (reader_at c.from_fn.result i) e)

@@ -2,7 +2,7 @@ use Rattle.std.proofs.Common.{ℕ, List, refl, ◌∙◌, subst}
 use Rattle.std.proofs.lemmas.Result.{on_ok_weaker, on_err_weaker}
 use Rattle.mb_carrier.proofs.ListLemmas.{Fronted, listing-start, listing-step, listing-halted, listing-fed}
 use Rattle.mb_carrier.proofs.ListLemmas.{listing-last_halted, noted-more}
-use Rattle.mb_carrier.proofs.listing.list_piece.Goals as goal
+use Rattle.mb_carrier.proofs.list_steps.list_piece.Goals as goal
 
 pub events-init : goal.events-init
 events-init g c =
@@ -31,7 +31,8 @@ events-preserved g c =
       sound = c.in_default-list_seen.ensures.sound ∙ c.events.invariant.sound;
       listing = listing-step _ _ _ _ _ _ _ _ _ _ _ _ _ _ _ _ _ _ _ c.in-Some.seen (λ x y. g.met.K.Out.both _ _ _ x y)
           c.events.invariant.reads c.moment-moment.ensures
-          (noted-more _ _ _ c.is_note.ensures) c.events.invariant.listing c.in-Some.ensures.goes c.in_default-list_seen.ensures.ok;
+          (noted-more _ _ _ c.is_note.ensures) c.events.invariant.listing c.in-Some.ensures.goes
+          c.in_default-list_seen.ensures.ok;
     }
 
 pub returns-clause-fed : goal.returns-clause-fed

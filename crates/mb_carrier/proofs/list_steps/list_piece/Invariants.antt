@@ -1,6 +1,6 @@
 use Rattle.std.proofs.Common.{◌≡◌, ◌+◌, ◌*◌, length}
 use Rattle.mb_carrier.proofs.ListLemmas.{Listing}
-use Rattle.mb_carrier.proofs.listing.list_piece.Given as goal
+use Rattle.mb_carrier.proofs.list_steps.list_piece.Given as goal
 
 abbrev pub invariant-events : goal.invariant-events
 invariant-events g l =

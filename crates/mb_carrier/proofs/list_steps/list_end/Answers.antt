@@ -3,7 +3,7 @@ use Rattle.mb_stream.specs.ReaderLaw.{answer}
 use Rattle.std.proofs.lemmas.Result.{on_ok_weaker, on_err_weaker}
 use Rattle.mb_carrier.proofs.ListLemmas.{Fronted, ended-none, ended-seen, ended-halted, ended-last_halted, noted-more}
 use Rattle.mb_carrier.proofs.ListLemmas.{end-says}
-use Rattle.mb_carrier.proofs.listing.list_end.Goals as goal
+use Rattle.mb_carrier.proofs.list_steps.list_end.Goals as goal
 
 pub returns-in-None-clause-ended : goal.returns-in-None-clause-ended
 returns-in-None-clause-ended g c = ended-none _ _ _ _ (g.R.EventReader.moment c.finish.new.self 0) _

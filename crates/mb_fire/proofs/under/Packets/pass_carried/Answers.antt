@@ -4,9 +4,9 @@ use Rattle.mb_fire.specs.declared.place.BlockPlace.{BlockPlace}
 use Rattle.mb_fire.specs.declared.place.Place.{Place}
 use Rattle.mb_fire.specs.Under.{left_in, to_come, behind_quadlet, due_by, notes_behind}
 use Rattle.mb_fire.proofs.PassedLemmas.{at_place, within, carried-whole, carried-part}
-use Rattle.mb_fire.proofs.under.Packet.pass_carried.Goals as goal
-use Rattle.mb_fire.proofs.under.Packet.pass_carried.Goals.{else-next-eq0-via-then-next-eq0+else-next-eq0-2}
-use Rattle.mb_fire.proofs.under.Packet.pass_carried.Goals.{else-next-eq0-via-else-next-eq0}
+use Rattle.mb_fire.proofs.under.Packets.pass_carried.Goals as goal
+use Rattle.mb_fire.proofs.under.Packets.pass_carried.Goals.{else-next-eq0-via-then-next-eq0+else-next-eq0-2}
+use Rattle.mb_fire.proofs.under.Packets.pass_carried.Goals.{else-next-eq0-via-else-next-eq0}
 
 pub returns-then-next-eq0-2 : goal.returns-then-next-eq0-2
 returns-then-next-eq0-2 c =
