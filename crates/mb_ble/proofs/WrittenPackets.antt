@@ -43,7 +43,7 @@ rest-content (b ∷ c) more = ap (λ z. FrameByte b ∷ z) (rest-content c more)
 joined : (n : ℕ) → 256 * (n / 256) + n % 256 ≡ n
 joined n = omega arith
 
-parts-frame : (c more : List ℕ) → parts (frame c ++ more) ≡ FrameBegin (length c) ∷ map FrameByte c ++
+pub parts-frame : (c more : List ℕ) → parts (frame c ++ more) ≡ FrameBegin (length c) ∷ map FrameByte c ++
     FrameEnd ∷ parts more
 parts-frame c more =
     parts-counted (frame c ++ more)
@@ -67,8 +67,12 @@ clean-content : (c : List ℕ) (p : Packeted) (more : List FramePart) → CleanB
 clean-content [] p more a e h = (e, h)
 clean-content (b ∷ c) p more a e h = (a.0, clean-content c (byte_after p b) more a.1 e h)
 
-headed : (h : ℕ) (r : Reader) → nat_lt h 128 ≡ false → byte_after (record { place = AtHeader; reader = r; runs = None })
-    h ≡ between r
+pub headed : (h : ℕ) (r : Reader) → nat_lt h 128 ≡ false → byte_after (record {
+  place = AtHeader;
+  reader = r;
+  runs =
+      None;
+}) h ≡ between r
 headed h r e = ap (λ c. record { place = if c then AtSkipped else AtBody; reader = r; runs = None }) e
 
 some-length : (n : ℕ) → (suc n == 0) ≡ false
@@ -97,14 +101,14 @@ clean-frame h c more r e a n k =
     )
 
 -- What was read of the packet under way, from where it began.
-record Under (r0 : Reader) (before : List Spelled) (p : Place) : Type 0 where
-  reader : Reader
-  runs : Option (Need × ℕ)
-  next : body_after (between r0) (content before) ≡ in_body reader runs
-  clean : CleanBody (between r0) (content before)
-  meets : Meets (running_of before) reader p
+pub record Under (r0 : Reader) (before : List Spelled) (p : Place) : Type 0 where
+  pub reader : Reader
+  pub runs : Option (Need × ℕ)
+  pub next : body_after (between r0) (content before) ≡ in_body reader runs
+  pub clean : CleanBody (between r0) (content before)
+  pub meets : Meets (running_of before) reader p
 
-under-new : (r0 : Reader) (p : Place) → Meets None r0 p → Under r0 [] p
+pub under-new : (r0 : Reader) (p : Place) → Meets None r0 p → Under r0 [] p
 under-new r0 p m = record { reader = r0; runs = None; next = refl; clean = tt; meets = m }
 
 running-same : (moment : ℕ) (mark : Sign) (before : List Spelled) → running_after (running_of before) mark ≡
@@ -116,13 +120,13 @@ running-same moment (ByteSign b) before = refl
 running-same moment EndSign before = refl
 running-same moment AbortSign before = refl
 
-record More (r0 : Reader) (before : List Spelled) (p : Place) (moment : ℕ) (mark : Sign) : Type 0 where
-  under : Under r0 (record { moment = moment; mark = mark } ∷ before) (place_after p mark)
-  told : body_tells (between r0) (content (record { moment = moment; mark = mark } ∷ before)) ≡ body_tells (between r0)
-      (content before) ++ late_at p mark
-  stands : is_opened (place_after p mark) ≡ open_after (is_opened p) mark
+pub record More (r0 : Reader) (before : List Spelled) (p : Place) (moment : ℕ) (mark : Sign) : Type 0 where
+  pub under : Under r0 (record { moment = moment; mark = mark } ∷ before) (place_after p mark)
+  pub told : body_tells (between r0) (content (record { moment = moment; mark = mark } ∷ before)) ≡
+      body_tells (between r0) (content before) ++ late_at p mark
+  pub stands : is_opened (place_after p mark) ≡ open_after (is_opened p) mark
 
-under-more : (r0 : Reader) (before : List Spelled) (p : Place) (moment : ℕ) (mark : Sign) → is_abort mark ≡ false →
+pub under-more : (r0 : Reader) (before : List Spelled) (p : Place) (moment : ℕ) (mark : Sign) → is_abort mark ≡ false →
     Suits_sign (is_opened p) mark → Under r0 before p →
     More r0 before p moment mark
 under-more r0 before p moment mark i su u =
@@ -149,7 +153,7 @@ meets-broke : (w : Option ℕ) (r : Reader) → Meets w r Opened → Meets w r B
 meets-broke None r m = m
 meets-broke (Some s) r m = absurd m
 
-under-broke : (r0 : Reader) (before : List Spelled) → Under r0 before Opened → Under r0 before Broke
+pub under-broke : (r0 : Reader) (before : List Spelled) → Under r0 before Opened → Under r0 before Broke
 under-broke r0 before u = record {
   reader = u.reader;
   runs = u.runs;
@@ -164,13 +168,15 @@ record ReadRest (r0 : Reader) (before : List Spelled) (bytes : List ℕ) (ms : L
   told : read_parts (between r0) (parts bytes) ≡ body_tells (between r0) (content before) ++ ms
   clean : CleanParts (between r0) (parts bytes)
 
+header-high : (before : List Spelled) → nat_lt (header before) 128 ≡ false
+header-high before = grind (arith, nat_tests)
+
 -- A packet ends.
 read-ended : (r0 : Reader) (y : Spelled) (before : List Spelled) (p : Place) (more : List ℕ) (ms : List Sign) →
     (u : Under r0 (y ∷ before) p) →
     ReadRest (cut u.reader) [] more ms → ReadRest r0 (y ∷ before) (flushed (y ∷ before) ++ more) ms
 read-ended r0 y before p more ms u h =
-    let high : nat_lt (header (y ∷ before)) 128 ≡ false = stamp-high
-    (upper_six (unwrap_or (first_stamp (y ∷ before)) (last_moment (y ∷ before)))) in
+    let high : nat_lt (header (y ∷ before)) 128 ≡ false = header-high (y ∷ before) in
     record {
       told = read-frame (header (y ∷ before)) (content (y ∷ before)) more r0 high
           ∙ (ap (λ z. body_tells (between r0) (content (y ∷ before)) ++ read_parts (between (cut z.reader))
@@ -181,7 +187,7 @@ read-ended r0 y before p more ms u h =
           (subst (λ z. CleanParts (between (cut z.reader)) (parts more)) (sym u.next) h.clean);
     }
 
-abbrev all_from : ℕ → List Spelled → List Put → List ℕ
+abbrev pub all_from : ℕ → List Spelled → List Put → List ℕ
 all_from n before puts = live_from n before puts ++ flushed (under_way_from n before puts)
 
 -- The statement for the rest of the puts, whatever is under way.
@@ -190,7 +196,7 @@ ReadsAll n puts = (r0 : Reader) (before : List Spelled) (p : Place) → Under r0
     Suit (is_opened p) (signs_in puts) →
     ReadRest r0 before (all_from n before puts) (late p (signs_in puts))
 
-meets-start : (r0 : Reader) (p : Place) → Under r0 [] p → Meets None r0 p
+pub meets-start : (r0 : Reader) (p : Place) → Under r0 [] p → Meets None r0 p
 meets-start r0 p u = subst (λ r. Meets None r p) (sym (ap (λ (z : Packeted). z.reader) u.next)) u.meets
 
 read-none : (r0 : Reader) (p : Place) → Meets None r0 p → ReadRest r0 [] [] (owed p)
@@ -231,7 +237,7 @@ read-on n moment mark puts i ih r0 before p u su =
       clean = h.clean;
     }
 
-abbrev spelled_from : ℕ → List Spelled → Spelled → Bool → List Put → List ℕ
+abbrev pub spelled_from : ℕ → List Spelled → Spelled → Bool → List Put → List ℕ
 spelled_from n before x c puts =
     ((if c then flushed before else []) ++ live_from n (if c then x ∷ [] else x ∷ before) puts) ++
     flushed (under_way_from n (if c then x ∷ [] else x ∷ before) puts)
@@ -281,7 +287,7 @@ reads-all n (At m (ByteSign b) ∷ puts) = read-spelled n m (ByteSign b) puts re
 reads-all n (At m EndSign ∷ puts) = read-spelled n m EndSign puts refl (reads-all n puts)
 reads-all n (At m AbortSign ∷ puts) = read-abort n m puts (reads-all n puts)
 
-written-all : (n : ℕ) (puts : List Put) → ble_written n puts ≡ all_from n [] puts
+pub written-all : (n : ℕ) (puts : List Put) → ble_written n puts ≡ all_from n [] puts
 written-all n puts = written_law n puts ∙ ap (λ z. z ++ flushed (under_way n puts)) (live_law n puts)
 
 read-written : (n : ℕ) (puts : List Put) → Suit false (signs_in puts) → ReadRest Rest [] (ble_written n puts)

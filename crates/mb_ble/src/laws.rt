@@ -5,11 +5,12 @@ ghost use Rattle.mb_message.specs.Front.{IsFront};
 ghost use Rattle.mb_stream.specs.Denotation.{denotation};
 ghost use Rattle.mb_stream.specs.Reading.{notes_of, signs_of};
 ghost use Rattle.mb_stream.specs.Standing.{AreValid, suited};
-ghost use Rattle.mb_stream.specs.Puts.{Put, signs_in};
-ghost use Rattle.mb_ble.specs.Packets.{all_tokens};
-ghost use Rattle.mb_ble.specs.Reading.{ble_known, ble_reading, ble_whole};
+ghost use Rattle.mb_stream.specs.Puts.{Put, signs_in, last_put};
+ghost use Rattle.mb_ble.specs.Packets.{all_tokens, clock};
+ghost use Rattle.mb_ble.specs.Reading.{ble_known, ble_reading, ble_whole, last_tokens};
 ghost use Rattle.mb_ble.specs.News.{news_from};
 ghost use Rattle.mb_ble.specs.HeldBack.{HeldBack};
+ghost use Rattle.mb_ble.specs.Distances.{IsRising, AreClose, KeepDistances, KeepStamps, message_moments, puts_read};
 ghost use Rattle.mb_ble.specs.Running.{flushed, live, under_way};
 ghost use Rattle.mb_ble.specs.Written.{Spelled, IsPacketsOf, packets, ble_live, ble_written};
 
@@ -66,4 +67,22 @@ pub fn ble_carries()
         length (signs_of (ble_reading (ble_written size puts))) ≤ length (signs_in puts) + 1 }
     ensures clean { (size : ℕ) (puts : List Put) → suited (signs_in puts) ≡ true → AreValid (signs_in puts) →
         notes_of (ble_reading (ble_written size puts)) ≡ [] }
+{}
+
+/// The moments of the marks of a reading never fall, and none is above that of the last stamp.
+pub fn ble_moments_rise()
+    ensures rises { (bytes : List ℕ) → IsRising 0 (puts_read (ble_reading bytes)) }
+    ensures last { (bytes : List ℕ) → last_put 0 (puts_read (ble_reading bytes)) ≤ (clock (last_tokens bytes)).moment }
+{}
+
+/// What is read of written packets has the moments that were put, as far as 13 bits can tell them. Where no moment is
+/// below the one before, each message has its stamp's bits; and where no two neighbouring messages are 8,192 ms or more
+/// apart, all messages lie as far apart as they were put, at every size, whatever the flushes are.
+pub fn ble_keeps_distances()
+    ensures stamps { (size : ℕ) (puts : List Put) → suited (signs_in puts) ≡ true → AreValid (signs_in puts) →
+        IsRising 0 puts →
+        KeepStamps (message_moments puts) (message_moments (puts_read (ble_reading (ble_written size puts)))) }
+    ensures distances { (size : ℕ) (puts : List Put) → suited (signs_in puts) ≡ true → AreValid (signs_in puts) →
+        IsRising 0 puts → AreClose (message_moments puts) →
+        KeepDistances (message_moments puts) (message_moments (puts_read (ble_reading (ble_written size puts)))) }
 {}

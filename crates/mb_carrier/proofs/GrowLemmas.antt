@@ -92,7 +92,7 @@ moments-same s g d e puts more suits i h =
 
 -- Bytes that puts of one moment gave have that moment, and what the finish adds has the end's.
 
-last_put-at : (m k : ℕ) (x : Sign) (before : List Put) → last_put m (before ++ At k x ∷ []) ≡ k
+pub last_put-at : (m k : ℕ) (x : Sign) (before : List Put) → last_put m (before ++ At k x ∷ []) ≡ k
 last_put-at m k x [] = refl
 last_put-at m k x (At n y ∷ ps) = last_put-at n k x ps
 last_put-at m k x (Flush ∷ ps) = last_put-at m k x ps

@@ -8,6 +8,7 @@ pub mod GrowLemmas
 pub mod GrowSpecs
 pub mod LineLemmas
 mod LiveExamples
+mod MomentExamples
 pub mod LiveLemmas
 pub mod ListLemmas
 pub mod NoteLemmas
@@ -17,3 +18,8 @@ pub mod PutLemmas
 pub mod ReadingLemmas
 pub mod SpecLaws
 pub mod WordLemmas
+pub mod FreshPlaces
+pub mod MessageCounts
+pub mod HopMoments
+pub mod RisingHops
+pub mod ChainMoments

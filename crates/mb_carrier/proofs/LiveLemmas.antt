@@ -35,20 +35,20 @@ use Rattle.mb_carrier.proofs.PutLemmas.{known_signs-append, so_far-in}
 use Rattle.mb_carrier.proofs.ReadingLemmas.{suited-front}
 
 -- what is known so far means what the reading means
-den-so_far : (s : Spec) (bytes : List ℕ) → den s bytes ≡ denotation (marks_so_far s bytes)
+pub den-so_far : (s : Spec) (bytes : List ℕ) → den s bytes ≡ denotation (marks_so_far s bytes)
 den-so_far s bytes =
     ap denotation ((laws s).ends bytes) ∙ means-end (marks_so_far s bytes) (last_of (payload_of s bytes))
 
-so_far-suits : (s : Spec) (bytes : List ℕ) → suited (marks_so_far s bytes) ≡ true
+pub so_far-suits : (s : Spec) (bytes : List ℕ) → suited (marks_so_far s bytes) ≡ true
 so_far-suits s bytes =
     suited-front (marks_so_far s bytes) (told_signs (end_told s bytes))
     (ap suited (sym ((laws s).ends bytes)) ∙ (laws s).suits bytes)
 
-valid-front : (xs ys : List Sign) → AreValid (xs ++ ys) → AreValid xs
+pub valid-front : (xs ys : List Sign) → AreValid (xs ++ ys) → AreValid xs
 valid-front xs ys v =
     (both (list_all is_valid xs) (list_all is_valid ys) (sym (list_all-append is_valid xs ys) ∙ v)).0
 
-so_far-valid : (s : Spec) (bytes : List ℕ) → AreValid (marks_so_far s bytes)
+pub so_far-valid : (s : Spec) (bytes : List ℕ) → AreValid (marks_so_far s bytes)
 so_far-valid s bytes =
     valid-front (marks_so_far s bytes) (told_signs (end_told s bytes))
     (subst AreValid ((laws s).ends bytes) ((laws s).valid bytes))
@@ -88,7 +88,7 @@ packet-held size puts fits suits valid =
           (front-means (signs_in h.shown) (signs_in h.held) (ap suited (sym all) ∙ suits));
     }
 
-holds-back : (s : Spec) (puts : List Put) → IsSpec s → suited (signs_in puts) ≡ true → AreValid (signs_in puts) →
+pub holds-back : (s : Spec) (puts : List Put) → IsSpec s → suited (signs_in puts) ≡ true → AreValid (signs_in puts) →
     HoldsBack s (denotation (signs_in puts)) (den s (live s puts))
 holds-back Din puts is suits valid = (laws Din).means is puts suits valid
 holds-back (Fire port) puts is suits valid = (laws (Fire port)).means is puts suits valid

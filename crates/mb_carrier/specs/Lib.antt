@@ -16,3 +16,4 @@ pub mod SpecLaws
 pub mod Step
 pub mod UsbLaws
 pub mod Word
+pub mod MessageMoments

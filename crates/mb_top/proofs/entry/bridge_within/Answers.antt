@@ -9,6 +9,7 @@ use Rattle.mb_top.specs.declared.status.Status.TheVariants.{Done, Noted}
 use Rattle.mb_top.proofs.AnswerLemmas.{answered, went_through, ends-at_status, cut-at_end, reads_all, completes}
 use Rattle.mb_top.proofs.AnswerLemmas.{is_canonical, usage_only, is_meant, read_faults, write_fault, no_write_fault}
 use Rattle.mb_top.proofs.AnswerLemmas.{wants_memory, noted_alone}
+use Rattle.mb_top.proofs.DistanceLemmas.{keeps_distances}
 use Rattle.mb_top.proofs.SoFarLemmas.{live_written, so_far-lacks, so_far-held, so_far-stays, so_far-ends, so_far-front}
 use Rattle.mb_top.proofs.entry.bridge_within.Goals as goal
 
@@ -50,6 +51,11 @@ returns-clause-canonical g c = λ tally first between last tells m all byte_line
     let t = went_through _ _ _ _ _ _ _ (Converting tally first between last) all m
     (returns-clause-contents g c tells) in
     is_canonical first between last _ _ byte_line t.output_is
+
+pub returns-clause-moments : goal.returns-clause-moments
+returns-clause-moments g c = λ tally first between last tells m all.
+    keeps_distances first between last _ _ (written_specs _ tally first between last m).0
+    (returns-clause-exact g c tally first between last tells m all)
 
 pub returns-clause-so_far : goal.returns-clause-so_far
 returns-clause-so_far g c = λ tally first between last tells m part.
