@@ -2,6 +2,7 @@
 
 use mb_outside::{Args, Desk, DeskOut, MemoryDesk, MemoryOut, Out, RealDesk, write_all};
 use std::alloc::Global;
+use std::fs;
 use std::process::Abort;
 
 #[test]
@@ -103,4 +104,76 @@ fn an_out_in_memory_takes_what_there_is_room_for(rt: HostRuntime) {
     assert!(rt; out.take(&[1, 2, 3]).is_ok() && out.take(&[]).is_ok());
     assert!(rt; out.take(&[4, 5]).is_err() && out.take(&[]).is_ok());
     assert!(rt; out.bytes() == [1, 2, 3, 4].as_slice());
+}
+
+/// Opens a file and reads from its start.
+fn read_file<D: Desk>(desk: &mut D, name: &str, buffer: &mut [u8]) -> Option<usize> {
+    match desk.open(name) {
+        Ok(handle) => desk.read(handle, buffer).ok(),
+        Err(_) => None,
+    }
+}
+
+/// Creates a file and writes to it.
+fn write_file<D: Desk>(desk: &mut D, name: &str, bytes: &[u8]) -> Option<usize> {
+    match desk.create(name) {
+        Ok(handle) => desk.write(handle, bytes).ok(),
+        Err(_) => None,
+    }
+}
+
+#[test]
+fn files_in_memory_are_read_and_written(rt: HostRuntime) {
+    let mut desk = MemoryDesk::new(rt.alloc(), 8).expect(&rt, "memory");
+    desk.put_file("a", &[1, 2, 3]).expect(&rt, "memory");
+    let mut buffer = [0u8; 4];
+    assert!(rt; read_file(&mut desk, "a", &mut buffer) == Some(3));
+    // opened once more it is read from its start again, by a handle of its own
+    assert!(rt; read_file(&mut desk, "a", &mut buffer[..2]) == Some(2));
+    assert!(rt; buffer.as_slice() == [1, 2, 3, 0].as_slice());
+    assert!(rt; read_file(&mut desk, "b", &mut buffer).is_none());
+    // what was created can't be opened
+    assert!(rt; write_file(&mut desk, "b", &[7, 8]) == Some(2));
+    assert!(rt; desk.is_written(5, &[7, 8]) && desk.is_written(1, &[]));
+    assert!(rt; read_file(&mut desk, "b", &mut buffer).is_none());
+}
+
+#[test]
+fn sixty_one_handles_are_given(rt: HostRuntime) {
+    let mut desk = MemoryDesk::new(rt.alloc(), 8).expect(&rt, "memory");
+    desk.put_file("a", &[]).expect(&rt, "memory");
+    for _ in 0..61u8 {
+        assert!(rt; desk.open("a").is_ok());
+    }
+    assert!(rt; desk.open("a").is_err() && desk.create("b").is_err());
+}
+
+/// A file that the test makes and takes away again.
+const MADE: &str = "made_by_a_test.bin";
+
+#[test]
+fn a_real_desk_reads_the_file_that_it_wrote(rt: HostRuntime) {
+    let handle = rt.clone().expect(&rt, "a handle");
+    let mut desk = RealDesk::new(handle, rt.alloc()).expect(&rt, "memory");
+    let mut buffer = [0u8; 8];
+    assert!(rt; write_file(&mut desk, MADE, &[1, 0xff, 3]) == Some(3));
+    assert!(rt; read_file(&mut desk, MADE, &mut buffer) == Some(3));
+    assert!(rt; buffer.as_slice() == [1, 0xff, 3, 0, 0, 0, 0, 0].as_slice());
+    // the end, at the handle that was opened; handle 3 writes alone
+    assert!(rt; desk.read(4, &mut buffer).ok() == Some(0) && desk.read(3, &mut buffer).is_err());
+    assert!(rt; desk.write(3, &[4]).ok() == Some(1) && desk.write(4, &[4]).is_err());
+    assert!(rt; desk.read(4, &mut buffer).ok() == Some(1));
+    assert!(rt; fs::remove_file(&rt, MADE).is_ok());
+    assert!(rt; desk.open(MADE).is_err() && desk.create("no such folder/a").is_err());
+}
+
+#[test]
+fn a_real_desk_gives_sixty_one_handles(rt: HostRuntime) {
+    let handle = rt.clone().expect(&rt, "a handle");
+    let mut desk = RealDesk::new(handle, rt.alloc()).expect(&rt, "memory");
+    for _ in 0..61u8 {
+        assert!(rt; desk.open("/dev/null").is_ok());
+    }
+    assert!(rt; desk.open("/dev/null").is_err() && desk.create(MADE).is_err());
+    assert!(rt; fs::open(&rt, MADE).is_err());
 }

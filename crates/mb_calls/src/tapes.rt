@@ -151,3 +151,15 @@ fn gathered_bytes(rt: HostRuntime) {
             == b"\0\0\0\0\0\0\0\0\0\0\x02\x90\x3c\0\0\0\0\0\0\x07\xd0\0\0\x01\xf8".as_slice()
     );
 }
+
+#[test]
+fn a_magic_is_taken_with_its_last_byte(rt: HostRuntime) {
+    let mut tape = Tape::new();
+    assert!(rt; !tape.has_magic());
+    assert!(rt; tape.next(&mut b"MBT".as_slice()).is_ok() && !tape.has_magic());
+    assert!(rt; tape.next(&mut b"2".as_slice()).is_ok() && tape.has_magic());
+    // of the bytes behind a fault none is taken
+    let mut rest = b"\0\0\0\0\0\0\0\0\0\0\0\x01\x02".as_slice();
+    assert!(rt; tape.next(&mut rest).is_err() && tape.has_magic());
+    assert!(rt; rest == [1, 2].as_slice());
+}

@@ -9,7 +9,8 @@
 --   ending_at t                  how a list of bytes ends that stops there
 --   ending_from t bytes
 --   behind_records second rs     where a tape stands behind these records
-use Rattle.std.specs.Prelude.{ℕ, zero, suc, ◌-◌, ◌==◌, Bool, false, not, if◌then◌else◌, List, [], ◌∷◌, ◌++◌}
+--   magic_taken place            whether the magic is whole there
+use Rattle.std.specs.Prelude.{ℕ, zero, suc, ◌-◌, ◌==◌, Bool, true, false, not, if◌then◌else◌, List, [], ◌∷◌, ◌++◌}
 use Rattle.std.specs.Prelude.{length, Option, Some, None}
 use Rattle.mb_frames.specs.Tapes.{Record, RecordPart, RecordBegin, RecordByte, RecordEnd, RecordHeader, header_size}
 use Rattle.mb_frames.specs.Tapes.{header_of, header_fault, fits_magic, microseconds, TapeEnd, Whole, Inside, Faulty}
@@ -124,3 +125,15 @@ behind_from t (r ∷ rs) = behind_from (behind_record t r) rs
 abbrev pub behind_records : (second : Bool) → List Record → TapeState
 behind_records second rs =
     behind_from (record { place = place.Header; head = []; second = second; last = 0; track = 0 }) rs
+
+abbrev pub is_magic_fault : TapeFault → Bool
+is_magic_fault fault.Magic = true
+is_magic_fault (fault.Back was now) = false
+is_magic_fault (fault.Far now) = false
+is_magic_fault fault.Zero = false
+
+abbrev pub magic_taken : Place → Bool
+magic_taken place.Magic = false
+magic_taken place.Header = true
+magic_taken (place.Within left) = true
+magic_taken (place.Broken f) = not (is_magic_fault f)

@@ -5,11 +5,12 @@ ghost use Rattle.mb_frames.specs.Frames.{AreBytes, Cut, FramePart, IsUnfinished,
 ghost use Rattle.mb_frames.specs.Frames.{unfinished_parts};
 ghost use Rattle.mb_frames.specs.Counting.{counted_parts};
 ghost use Rattle.mb_frames.specs.Reading.{IsWhole, Place, Stands, from, is_at_end};
-ghost use Rattle.mb_frames.specs.Tapes.{AreRecords, Record, RecordPart, Whole, record_parts, tape, tape_parts};
-ghost use Rattle.mb_frames.specs.Tapes.{tape_read};
-ghost use Rattle.mb_frames.specs.TapeSteps.{TapeState, behind_records, ending_from, fresh, parts_from};
+ghost use Rattle.mb_frames.specs.Tapes.{AreRecords, Record, RecordPart, Whole, fault_in, record_parts, tape};
+ghost use Rattle.mb_frames.specs.Tapes.{tape_fault, tape_parts, tape_read};
+ghost use Rattle.mb_frames.specs.TapeSteps.{TapeState, after, behind_records, ending_at, ending_from, fresh};
+ghost use Rattle.mb_frames.specs.TapeSteps.{parts_from};
 ghost use Rattle.mb_frames.specs.TapeReading.{TapeStands};
-ghost use Rattle.mb_frames.specs.Migrated.{record_in_microseconds, tape2};
+ghost use Rattle.mb_frames.specs.Migrated.{migrated_from, record_in_microseconds, tape2};
 
 /// A list of bytes is frames, and a last one that is unfinished. Its parts are theirs.
 pub fn lists_are_frames()
@@ -77,4 +78,12 @@ pub fn tapes_migrate()
     ensures twice { (bytes : List ℕ) → AreBytes bytes → tape2 (tape2 bytes) ≡ tape2 bytes }
     ensures records { (second : Bool) (records : List Record) → AreRecords second 0 records →
         tape2 (tape second records) ≡ tape true (map (record_in_microseconds second) records) }
+{}
+
+/// A tape in the second form goes on behind each stretch of the tape that it is made of, by where that stands.
+pub fn tapes_migrate_on()
+    ensures first { (bytes : List ℕ) → tape2 bytes ≡ migrated_from fresh bytes }
+    ensures more { (bytes more : List ℕ) →
+        tape2 (bytes ++ more) ≡ tape2 bytes ++ migrated_from (after fresh bytes) more }
+    ensures fault { (bytes : List ℕ) → tape_fault bytes ≡ fault_in (ending_at (after fresh bytes)) }
 {}

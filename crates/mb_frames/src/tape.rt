@@ -1,11 +1,12 @@
 //! Reading a tape from pieces.
 
 ghost use Rattle.std.specs.Prelude.{◌≡◌, ◌≢◌, ℕ, ◌+◌, ◌*◌, ◌<◌, ◌≤◌, not, List, [], ◌∷◌, ◌++◌, length, false};
-ghost use Rattle.std.specs.Prelude.{IfOk, Err};
+ghost use Rattle.std.specs.Prelude.{IfOk, OnErr, Err};
 ghost use Rattle.mb_frames.specs.Tapes.{RecordPart, is_whole, tape_whole};
 ghost use Rattle.mb_frames.specs.TapeSteps.{begin_by, tape_behind, behind_head, magic_step, ending_at, fresh, parts_at};
-ghost use Rattle.mb_frames.specs.TapeSteps.{parts_from};
-ghost use Rattle.mb_frames.specs.TapeReading.{BeginsOnly, InHead, FaultStands, IsOver, TapeLongest, TapeStands};
+ghost use Rattle.mb_frames.specs.TapeSteps.{magic_taken, parts_from};
+ghost use Rattle.mb_frames.specs.TapeReading.{BeginsOnly, InHead, FaultAt, FaultStands, IsOver, TapeLongest};
+ghost use Rattle.mb_frames.specs.TapeReading.{TapeStands};
 ghost use Rattle.mb_frames.specs.TapeReading.{IfTold, TapeTakes, tape_owed, tape_told};
 ghost use Rattle.mb_frames.specs.declared.tape.TapeFault.{TapeFault};
 ghost use Rattle.mb_frames.specs.declared.tape.Place.TheVariants as place;
@@ -108,6 +109,8 @@ impl Tape {
             (taken : List ℕ) × (input.old.now ≡ taken ++ input.new.now)
             × TapeStands self.new (bytes ++ taken) (so_far ++ tape_told result) }
         ensures fault { FaultStands self.new.place result }
+        ensures at_fault { OnErr result (((f : TapeFault) → self.old.place ≢ place.Broken f) →
+            FaultAt self.old input.old.now input.new.now) }
         ensures sticky { (f : TapeFault) → self.old.place ≡ place.Broken f →
             (result ≡ Err f) × (self.new ≡ self.old) × (input.new.now ≡ input.old.now) }
         ensures none { IsOver result ((input.new.now ≡ []) × (parts_from self.new [] ≡ [])) }
@@ -140,6 +143,7 @@ impl Tape {
         requires { InHead self.old }
         ensures step { TapeTakes self.old self.new input.old.now input.new.now (tape_told result) }
         ensures fault { FaultStands self.new.place result }
+        ensures at_fault { OnErr result (FaultAt self.old input.old.now input.new.now) }
         ensures none { IsOver result ((input.new.now ≡ []) × InHead self.new) }
         ensures some { IfTold result (tape_told result ≢ []) }
         ensures begins { IfOk result (TapeLongest self.old input.old.now) }
@@ -225,6 +229,16 @@ impl Tape {
                     len: header.len,
                 }))
             }
+        }
+    }
+
+    /// Whether the magic was taken whole.
+    pub fn has_magic(&self) -> bool
+        ensures { result ≡ magic_taken self.now.place }
+    {
+        match self.place {
+            Place::Magic | Place::Broken(TapeFault::Magic) => false,
+            Place::Header | Place::Within(_) | Place::Broken(_) => true,
         }
     }
 

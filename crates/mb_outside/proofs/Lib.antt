@@ -1,1 +1,4 @@
+pub mod HandleLemmas
+pub mod LogLemmas
+pub mod PlaceLemmas
 pub mod ToldLemmas

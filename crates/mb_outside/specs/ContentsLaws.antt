@@ -1,16 +1,20 @@
 -- Laws of a desk's contents: equal entry by entry is equal, and two steps are one.
-use Rattle.std.proofs.Common.{◌≡◌, ℕ, ◌+◌, List, [], ◌++◌, take, drop, refl, sym, ◌∙◌, ap, append_assoc, arith}
+use Rattle.std.proofs.Common.{◌≡◌, ℕ, ◌+◌, ◌-◌, Bool, true, false, Some, List, [], ◌∷◌, ◌++◌, length, take, drop, refl}
+use Rattle.std.proofs.Common.{sym, ◌∙◌, ap, append_assoc, arith}
+use Rattle.std.specs.Prelude.{slice_get, nat_le, ◌==◌, ◌||◌, ◌&&◌}
 use Rattle.std.proofs.lemmas.List.{append-nil, drop-drop}
 use Rattle.std.proofs.Math.Seq.{take-add}
 use Rattle.std.proofs.lemmas.Bool.Decides.{nat_tests}
-use Rattle.mb_outside.specs.Contents.{Contents, with_entry, after_read, after_write}
+use Rattle.mb_outside.specs.Contents.{Contents, with_entry, after_read, after_write, after_open, after_create}
+use Rattle.mb_outside.specs.Contents.{next_handle, is_readable, is_writable, reads_given, writes_given}
 
 pub same_contents : (a b : Contents) → ((h : ℕ) → a.left h ≡ b.left h) → ((h : ℕ) → a.taken h ≡ b.taken h) →
-    ((h : ℕ) → a.written h ≡ b.written h) → a ≡ b
-same_contents a b left taken written = λ i. record {
+    ((h : ℕ) → a.written h ≡ b.written h) → a.given ≡ b.given → a ≡ b
+same_contents a b left taken written given = λ i. record {
   left = λ h. left h i;
   taken = λ h. taken h i;
   written = λ h. written h i;
+  given = given i;
 }
 
 -- an entry that is put where it stands
@@ -31,6 +35,7 @@ pub after_write-none : (handle : ℕ) (c : Contents) → after_write handle [] c
 after_write-none handle c =
     same_contents (after_write handle [] c) c (λ h. refl) (λ h. refl)
     (λ h. with_entry-same c.written handle _ h (append-nil (c.written handle)))
+    refl
 
 pub after_write-twice : (handle : ℕ) (x y : List ℕ) (c : Contents) →
     after_write handle y (after_write handle x c) ≡ after_write handle (x ++ y) c
@@ -42,6 +47,7 @@ after_write-twice handle x y c =
     ∙ ap (λ bytes. with_entry c.written handle bytes h)
     (ap (λ before. before ++ y) (with_entry-here c.written handle (c.written handle ++ x))
     ∙ append_assoc (c.written handle) x y))
+    refl
 
 -- what was taken in two steps
 taken_twice : (m n : ℕ) (taken left all rest : List ℕ) → all ≡ taken ++ take n left → rest ≡ drop n left →
@@ -57,6 +63,7 @@ after_read-none handle c =
     (λ h. with_entry-same c.left handle _ h refl)
     (λ h. with_entry-same c.taken handle _ h (append-nil (c.taken handle)))
     (λ h. refl)
+    refl
 
 pub after_read-twice : (handle m n : ℕ) (c : Contents) →
     after_read handle m (after_read handle n c) ≡ after_read handle (n + m) c
@@ -73,3 +80,4 @@ after_read-twice handle m n c =
     (with_entry-here c.taken handle (c.taken handle ++ take n (c.left handle)))
     (with_entry-here c.left handle (drop n (c.left handle)))))
     (λ h. refl)
+    refl

@@ -6,3 +6,5 @@ pub mod TakingLaws
 pub mod MemoryDesk
 pub mod MemoryOut
 pub mod MemoryOutLaws
+pub mod Place
+pub mod PlaceOf

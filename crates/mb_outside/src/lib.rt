@@ -5,7 +5,9 @@
 mod args;
 mod desk;
 mod desk_out;
+pub mod laws;
 mod memory_desk;
+mod memory_file;
 mod memory_out;
 mod out;
 mod real_desk;

@@ -1,23 +1,34 @@
 //! A desk in memory, which tells all that it holds and fails exactly where it is told to.
 
-ghost use Rattle.std.specs.Prelude.{◌≡◌, ℕ, ◌+◌, ◌-◌, ◌^◌, ◌<◌, ◌≤◌, ◌↔◌, Bool, true, not, ◌||◌, List, [], ◌∷◌, ◌++◌};
-ghost use Rattle.std.specs.Prelude.{length, take, vec_len, vec_capacity, IsTrue, is_ok, MatchOption, IfOk, OnOk, OnErr};
+ghost use Rattle.std.specs.Prelude.{◌≡◌, ℕ, ◌+◌, ◌-◌, ◌^◌, ◌<◌, ◌≤◌, ◌↔◌, ◌⊎◌, Bool, true, false, not, ◌||◌, List, []};
+ghost use Rattle.std.specs.Prelude.{◌∷◌, ◌++◌, length, take, vec_len, vec_capacity, IsTrue, is_ok, MatchOption, IfOk};
+ghost use Rattle.std.specs.Prelude.{OnOk, OnErr, slice_get};
 ghost use Rattle.mb_outside.specs.Cause.{HasCause};
-ghost use Rattle.mb_outside.specs.Contents.{Contents, is_readable, is_writable, Reads, Writes, TakesSome};
+ghost use Rattle.mb_outside.specs.Contents.{Contents, is_readable, is_writable, Opens, Creates, Reads, Writes};
+ghost use Rattle.mb_outside.specs.Contents.{TakesSome};
 ghost use Rattle.mb_outside.specs.MemoryDesk.{MemoryState, contents_of, is_planned, is_full, count_of_read};
-ghost use Rattle.mb_outside.specs.MemoryDesk.{count_of_write, one_more, bytes_to, logged, IsCalled};
+ghost use Rattle.mb_outside.specs.MemoryDesk.{count_of_write, one_more, bytes_to, logged, IsNew, most_given};
+ghost use Rattle.mb_outside.specs.MemoryDesk.{IsCalled, GivesOpened, GivesCreated};
 
+use crate::memory_file::{File, Given, find, give, rest};
 use crate::{Desk, Failed};
+use arrayvec::ArrayString;
 use mb_message::Memory;
 use std::alloc::Global;
 use std::marker::Model;
 
-/// What is written stands in one log, whose room is taken at the start: no call of the trait allocates.
+/// How many handles are given at most.
+const MOST_GIVEN: usize = 61;
+
+/// What is written stands in one log. Its room is taken at the start, and so is that for 61 handles with names of 255
+/// bytes: no call of the trait allocates.
 #[derive(Debug, Drop)]
 pub struct MemoryDesk {
     alloc: Global,
     input: Vec<u8>,
     at: usize,
+    files: Vec<File>,
+    places: Vec<Given>,
     log: Vec<(u32, u8)>,
     room: usize,
     planned: Vec<u64>,
@@ -29,13 +40,15 @@ pub struct MemoryDesk {
 
 impl Model for MemoryDesk {
     ghost use Rattle.std.specs.Prelude.{◌<◌, ◌≤◌, vec_len, vec_capacity};
-    ghost use Rattle.mb_outside.specs.MemoryDesk.{MemoryState};
+    ghost use Rattle.mb_outside.specs.MemoryDesk.{MemoryState, GivenFits};
 
     ghost Value = { MemoryState };
 
     ghost view = { λ d. record {
       input = d.input.items;
       at = d.at;
+      files = d.files.items;
+      places = d.places.items;
       log = d.log.items;
       room = d.room;
       planned = d.planned.items;
@@ -46,13 +59,14 @@ impl Model for MemoryDesk {
     } };
 
     ghost invariant = { λ d. (d.at ≤ vec_len d.input) × (vec_len d.log ≤ d.room) × (d.room ≤ vec_capacity d.log) ×
-        (0 < d.piece) };
+        (0 < d.piece) × GivenFits (vec_len d.places) (vec_capacity d.places) d.log.items };
 }
 
 impl MemoryDesk {
-    /// A desk with no input, no planned fault, and room for so many bytes to be written.
+    /// A desk with no input and no files, no planned fault, and room for so many bytes to be written.
     pub fn new(alloc: Global, room: usize) -> Result<MemoryDesk, Memory>
         ensures contents { IfOk result (λ desk. (desk.input ≡ []) × (desk.at ≡ 0) × (desk.log ≡ [])) }
+        ensures files { IfOk result (λ desk. (desk.files ≡ []) × (desk.places ≡ [])) }
         ensures room { IfOk result (λ desk. desk.room ≡ room) }
         ensures piece { IfOk result (λ desk. desk.piece ≡ 2 ^ 64 - 1) }
         ensures calls { IfOk result (λ desk. (desk.planned ≡ []) × (desk.calls ≡ 0)) }
@@ -61,10 +75,15 @@ impl MemoryDesk {
         let Ok(log) = Vec::with_capacity(alloc, room) else {
             return Err(Memory);
         };
+        let Ok(places) = Vec::with_capacity(alloc, MOST_GIVEN) else {
+            return Err(Memory);
+        };
         Ok(MemoryDesk {
             alloc,
             input: Vec::new(alloc),
             at: 0,
+            files: Vec::new(alloc),
+            places,
             log,
             room,
             planned: Vec::new(alloc),
@@ -88,8 +107,23 @@ impl MemoryDesk {
         Ok(())
     }
 
-    /// The calls of the trait with these numbers are to fail, counted from 1, reads and writes together. Without memory
-    /// nothing changes.
+    /// Adds a file that can be opened, each time from its start. Without memory nothing changes.
+    pub fn put_file(&mut self, name: &str, bytes: &[u8]) -> Result<(), Memory>
+        requires { IsNew self.old.files name.now }
+        ensures ok { OnOk result (self.new ≡ record self.old { files = self.old.files ++ (name.now, bytes.now) ∷ [] }) }
+        ensures err { OnErr result (self.new ≡ self.old) }
+    {
+        let Ok(file) = File::new(self.alloc, name, bytes) else {
+            return Err(Memory);
+        };
+        match self.files.push(file) {
+            Ok(()) => Ok(()),
+            Err(_) => Err(Memory),
+        }
+    }
+
+    /// The calls of the trait with these numbers are to fail, counted from 1 over all four. Without memory nothing
+    /// changes.
     pub fn plan_faults(&mut self, calls: &[u64]) -> Result<(), Memory>
         ensures ok { OnOk result (self.new ≡ record self.old { planned = calls.now }) }
         ensures err { OnErr result (self.new ≡ self.old) }
@@ -172,6 +206,62 @@ impl Desk for MemoryDesk {
 
     ghost write_faults = { λ m. m.write_faults };
 
+    fn open(&mut self, name: &str) -> Result<u32, Failed>
+        ensures contents { Opens (contents_of self.old) (contents_of self.new) result name.now }
+        ensures cause { HasCause self.old.read_faults self.new.read_faults result }
+        ensures sound { OnOk result (self.new.read_faults ≡ self.old.read_faults) }
+        ensures write_faults { self.new.write_faults ≡ self.old.write_faults }
+
+        ensures opens { OnOk result (GivesOpened self.old self.new name.now) }
+        ensures fails { OnErr result ((is_planned self.old ≡ true) ⊎ IsNew self.old.files name.now ⊎
+            (length self.old.places ≡ most_given)) }
+        ensures failed { OnErr result (self.new ≡ record self.old {
+          calls = one_more self.old.calls;
+          read_faults = one_more self.old.read_faults;
+        }) }
+    {
+        let is_planned = self.is_to_fail();
+        let given = self.places.len();
+        match find(&self.files, name) {
+            Some(file) if !is_planned && given < MOST_GIVEN => {
+                self.places.push_reserved(Given::opened(file));
+                Ok(3 + given as u32)
+            }
+            _ => {
+                self.read_faults = self.read_faults.saturating_add(1);
+                Err(Failed)
+            }
+        }
+    }
+
+    fn create(&mut self, name: &str) -> Result<u32, Failed>
+        ensures contents { Creates (contents_of self.old) (contents_of self.new) result name.now }
+        ensures cause { HasCause self.old.write_faults self.new.write_faults result }
+        ensures sound { OnOk result (self.new.write_faults ≡ self.old.write_faults) }
+        ensures read_faults { self.new.read_faults ≡ self.old.read_faults }
+
+        ensures creates { OnOk result (GivesCreated self.old self.new name.now) }
+        ensures fails { OnErr result ((is_planned self.old ≡ true) ⊎ (255 < length name.now) ⊎
+            (length self.old.places ≡ most_given)) }
+        ensures failed { OnErr result (self.new ≡ record self.old {
+          calls = one_more self.old.calls;
+          write_faults = one_more self.old.write_faults;
+        }) }
+    {
+        let is_planned = self.is_to_fail();
+        let given = self.places.len();
+        match ArrayString::from(name) {
+            Ok(name) if !is_planned && given < MOST_GIVEN => {
+                self.places.push_reserved(Given::created(name));
+                Ok(3 + given as u32)
+            }
+            _ => {
+                self.write_faults = self.write_faults.saturating_add(1);
+                Err(Failed)
+            }
+        }
+    }
+
     fn read(&mut self, h: u32, buf: &mut [u8]) -> Result<usize, Failed>
         requires { IsTrue (is_readable (contents_of self.old) h) }
         ensures bound { IfOk result (λ count. count ≤ length buf.new) }
@@ -181,18 +271,20 @@ impl Desk for MemoryDesk {
         ensures write_faults { self.new.write_faults ≡ self.old.write_faults }
 
         ensures fails { is_ok result ≡ not (is_planned self.old) }
-        ensures count { IfOk result (λ count. count ≡ count_of_read self.old (length buf.old)) }
+        ensures count { IfOk result (λ count. count ≡ count_of_read self.old h (length buf.old)) }
         ensures called { IsCalled self.old self.new }
     {
         if self.is_to_fail() {
             self.read_faults = self.read_faults.saturating_add(1);
             return Err(Failed);
         }
-        let left = &self.input[self.at..];
-        let count = left.len().min(buf.len()).min(self.piece);
-        buf[..count].copy_from_slice(&left[..count]);
-        self.at += count;
-        Ok(count)
+        if h == 0 {
+            let count = give(rest(&self.input, self.at), self.piece, buf);
+            self.at += count;
+            return Ok(count);
+        }
+        let given = &mut self.places[h as usize - 3];
+        Ok(given.read(&self.files, self.piece, buf))
     }
 
     fn write(&mut self, h: u32, piece: &[u8]) -> Result<usize, Failed>

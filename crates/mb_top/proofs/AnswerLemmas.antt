@@ -10,15 +10,18 @@ use Rattle.mb_outside.specs.ContentsLaws.{after_write-none, after_write-twice, a
 use Rattle.mb_message.specs.Front.{IsFront}
 use Rattle.mb_carrier.specs.Carrier.{whole}
 use Rattle.mb_carrier.specs.declared.spec.Spec.{Spec}
-use Rattle.mb_words.specs.Command.{Command, Converting, Listing, Means}
+use Rattle.mb_words.specs.Command.{Command, Converting, Listing, Migrating, Means}
 use Rattle.mb_words.proofs.CommandLemmas.{one_command}
 use Rattle.mb_top.specs.Output.{ReadsOne, reads_from, writes_to, may_want_memory, answers_notes, is_whole}
+use Rattle.mb_top.specs.Output.{fault_of, reads_tape}
+use Rattle.std.specs.Prelude.{Some}
+use Rattle.mb_frames.specs.declared.tape.TapeFault.{TapeFault}
 use Rattle.mb_top.specs.Answer.{Answered, DidAll, Moved, EndsAs, Says, faults_told, taken_off, added_to, code_of}
 use Rattle.mb_top.specs.Answer.{text_of, read_all}
 use Rattle.mb_top.specs.Ran.{Ran, RanWords, MayAnswer, MayAnswerWords, Faulted, written_of}
 use Rattle.mb_top.specs.declared.status.Status.{Status}
 use Rattle.mb_top.specs.declared.status.Status.TheVariants.{Done, Noted, Usage, Cut, NoMemory, Stopped}
-use Rattle.mb_top.specs.declared.status.Stop.TheVariants.{ReadFault, Refused, TooLong}
+use Rattle.mb_top.specs.declared.status.Stop.TheVariants.{ReadFault, Refused, TooLong, BadTape}
 use Rattle.mb_top.specs.declared.status.Stop.{Stop}
 use Rattle.mb_carrier.specs.Conversion.{through}
 use Rattle.mb_carrier.specs.declared.spec.Spec.TheVariants.{Din}
@@ -35,18 +38,32 @@ status_at n =
     (if n == 3 then Stopped ReadFault else (if n == 4 then Stopped Refused else
     (if n == 5 then Cut else (if n == 8 then Stopped TooLong else NoMemory))))))
 
-again : (s : Status) → status_at (code_of s) ≡ s
-again Done = refl
-again Noted = refl
-again Usage = refl
-again Cut = refl
-again NoMemory = refl
-again (Stopped ReadFault) = refl
-again (Stopped Refused) = refl
-again (Stopped TooLong) = refl
+again : (s : Status) → (code_of s == 7) ≡ false → status_at (code_of s) ≡ s
+again Done other = refl
+again Noted other = refl
+again Usage other = refl
+again Cut other = refl
+again NoMemory other = refl
+again (Stopped ReadFault) other = refl
+again (Stopped Refused) other = refl
+again (Stopped TooLong) other = refl
+again (Stopped (BadTape f)) other = absurd (wrong other)
 
-pub same_status : (s t : Status) → code_of s ≡ code_of t → s ≡ t
-same_status s t e = sym (again s) ∙ (ap status_at e ∙ again t)
+-- but for that of a fault in a tape, which is known too
+pub same_status : (s t : Status) → (code_of t == 7) ≡ false → code_of s ≡ code_of t → s ≡ t
+same_status s t other e =
+    sym (again s (ap (λ (n : ℕ). n == 7) e ∙ other)) ∙ (ap status_at e ∙ again t other)
+
+pub bad_tape : (s : Status) → code_of s ≡ 7 → (f : TapeFault) × (s ≡ Stopped (BadTape f))
+bad_tape (Stopped (BadTape f)) e = (f, refl)
+bad_tape (Stopped ReadFault) e = absurd (omega (arith, e))
+bad_tape (Stopped Refused) e = absurd (omega (arith, e))
+bad_tape (Stopped TooLong) e = absurd (omega (arith, e))
+bad_tape Done e = absurd (omega (arith, e))
+bad_tape Noted e = absurd (omega (arith, e))
+bad_tape Usage e = absurd (omega (arith, e))
+bad_tape Cut e = absurd (omega (arith, e))
+bad_tape NoMemory e = absurd (omega (arith, e))
 
 pub other_status : (s t : Status) → (code_of s ≡ code_of t → ⊥) → s ≡ t → ⊥
 other_status s t other e = other (ap code_of e)
@@ -62,6 +79,7 @@ at_the_end claim done noted cut NoMemory e = absurd (wrong (sym e))
 at_the_end claim done noted cut (Stopped ReadFault) e = absurd (wrong (sym e))
 at_the_end claim done noted cut (Stopped Refused) e = absurd (wrong (sym e))
 at_the_end claim done noted cut (Stopped TooLong) e = absurd (wrong (sym e))
+at_the_end claim done noted cut (Stopped (BadTape f)) e = absurd (wrong (sym e))
 
 -- what a caller sees of what was read, written and said
 
@@ -202,10 +220,12 @@ moved input output words before f =
 only_reads : (c : Command) (handle : ℕ) → reads_from c handle ≡ false → (handle == 0) ≡ false
 only_reads (Converting tally first between last) handle e = e
 only_reads (Listing traced s) handle e = e
+only_reads Migrating handle e = e
 
 only_writes : (c : Command) (handle : ℕ) → writes_to c handle ≡ false → ((handle == 1) || (handle == 2)) ≡ false
 only_writes (Converting tally first between last) handle e = e
 only_writes (Listing traced s) handle e = e
+only_writes Migrating handle e = e
 
 unread : (input : List ℕ) (handle : ℕ) → (handle == 0) ≡ false → seen_at input handle ≡ []
 unread input handle e = ap (λ (t : Bool). if t then input else []) e
@@ -254,6 +274,7 @@ answered words limit before mid after reads reads_mid faults faults_mid faults_n
     subst (λ (c : Contents). Answered words limit before c faults faults_now answer) (sym all)
     (record {
       moved = moved r.input r.output (r.tally ++ text) before r.front;
+      given = refl;
       status = status;
       number = number;
       tally = r.tally;
@@ -311,6 +332,7 @@ answered words limit before mid after reads reads_mid faults faults_mid faults_n
     by_told (Stopped ReadFault) = inr refl
     by_told (Stopped Refused) = inl refl
     by_told (Stopped TooLong) = inr refl
+    by_told (Stopped (BadTape f)) = inr refl
 
     rose-more : (before mid now : ℕ) (s : Status) (reads reads_mid : ℕ) → Faulted reads reads_mid before mid s →
         Rose mid now → Rose (before + faults_told s) now
@@ -375,12 +397,12 @@ may-words c words status m may = record {
 -- what the answer says of a command
 
 pub ends-at_status : (words : List (List ℕ)) (limit : ℕ) (before after : Contents) (faults faults_now answer : ℕ)
-    (c : Command) (status : Status) →
+    (c : Command) (status : Status) → (code_of status == 7) ≡ false →
     answer ≡ code_of status → Means words c → (a : Answered words limit before after faults faults_now answer) →
     EndsAs c limit (before.left 0) (taken_off 0 before after) (added_to 1 before after) a.tally status
-ends-at_status words limit before after faults faults_now answer c status e m a =
+ends-at_status words limit before after faults faults_now answer c status other e m a =
     subst (EndsAs c limit (before.left 0) (taken_off 0 before after) (added_to 1 before after) a.tally)
-    (same_status a.status status (sym a.number ∙ e)) (a.did c m).ends
+    (same_status a.status status other (sym a.number ∙ e)) (a.did c m).ends
 
 pub went_through : (words : List (List ℕ)) (limit : ℕ) (before after : Contents) (faults faults_now answer : ℕ)
     (c : Command) →
@@ -395,6 +417,13 @@ went_through words limit before after faults faults_now answer c all m a =
 is_whole-of : (c : Command) (s : Spec) (input : List ℕ) → ReadsOne c s → is_whole c input ≡ whole s input
 is_whole-of (Converting tally first between last) s input e = ap (λ (t : Spec). whole t input) (sym e)
 is_whole-of (Listing traced t) s input e = ap (λ (u : Spec). whole u input) (sym e)
+is_whole-of Migrating s input e = absurd e
+
+-- a recording that is no tape has no fault
+pub no_fault : (c : Command) (s : Spec) (input : List ℕ) (f : TapeFault) → ReadsOne c s → fault_of c input ≡ Some f → ⊥
+no_fault (Converting tally first between last) s input f reads e = cc
+no_fault (Listing traced t) s input f reads e = cc
+no_fault Migrating s input f reads e = reads
 
 -- at the end, it is 5 exactly where the input stops inside a packet
 pub cut-at_end : (words : List (List ℕ)) (limit : ℕ) (before after : Contents) (faults faults_now answer : ℕ)
@@ -426,18 +455,23 @@ pub reads_all : (words : List (List ℕ)) (limit : ℕ) (before after : Contents
     Means words c → MayAnswerWords words status → may_want_memory c ≡ false →
     (status ≡ Stopped ReadFault → reads) → (status ≡ Stopped Refused → writes) → (reads → ⊥) → (writes → ⊥) →
     length (before.left 0) < limit →
+    ((input : List ℕ) (g : TapeFault) → IsFront input (before.left 0) → fault_of c input ≡ Some g → ⊥) →
     RanWords words limit before after status → read_all (code_of status) ≡ true
-reads_all words limit before after reads writes Done c m may w r f nr nw short ran = refl
-reads_all words limit before after reads writes Noted c m may w r f nr nw short ran = refl
-reads_all words limit before after reads writes Usage c m may w r f nr nw short ran = absurd (may.usage refl c m)
-reads_all words limit before after reads writes Cut c m may w r f nr nw short ran = refl
-reads_all words limit before after reads writes NoMemory c m may w r f nr nw short ran =
+reads_all words limit before after reads writes Done c m may w r f nr nw short sound ran = refl
+reads_all words limit before after reads writes Noted c m may w r f nr nw short sound ran = refl
+reads_all words limit before after reads writes Usage c m may w r f nr nw short sound ran = absurd (may.usage refl c m)
+reads_all words limit before after reads writes Cut c m may w r f nr nw short sound ran = refl
+reads_all words limit before after reads writes NoMemory c m may w r f nr nw short sound ran =
     let wants = (ran.ends c m).3 in
     absurd (wrong (sym wants ∙ w))
-reads_all words limit before after reads writes (Stopped ReadFault) c m may w r f nr nw short ran = absurd (nr (r refl))
-reads_all words limit before after reads writes (Stopped Refused) c m may w r f nr nw short ran = absurd (nw (f refl))
-reads_all words limit before after reads writes (Stopped TooLong) c m may w r f nr nw short ran =
+reads_all words limit before after reads writes (Stopped ReadFault) c m may w r f nr nw short sound ran =
+    absurd (nr (r refl))
+reads_all words limit before after reads writes (Stopped Refused) c m may w r f nr nw short sound ran =
+    absurd (nw (f refl))
+reads_all words limit before after reads writes (Stopped TooLong) c m may w r f nr nw short sound ran =
     absurd (omega (arith, short, (ran.ends c m).0, ap length (ran.front).1, length-append ran.input (ran.front).0))
+reads_all words limit before after reads writes (Stopped (BadTape g)) c m may w r f nr nw short sound ran =
+    absurd (sound ran.input g ran.front (ran.ends c m).2)
 
 -- of a conversion of a whole input, that is 0
 pub completes : (words : List (List ℕ)) (limit : ℕ) (before after : Contents) (faults faults_now answer : ℕ)
@@ -460,6 +494,12 @@ pub means-noted : (words : List (List ℕ)) (c : Command) → Means words c → 
 means-noted words (Converting tally first between last) m e = absurd (wrong (sym e))
 means-noted words (Listing true s) m e = absurd (wrong (sym e))
 means-noted words (Listing false s) m e = (s, m)
+means-noted words Migrating m e = absurd (wrong (sym e))
+
+means-tape : (words : List (List ℕ)) (c : Command) → Means words c → reads_tape c ≡ true → Means words Migrating
+means-tape words (Converting tally first between last) m e = absurd (wrong (sym e))
+means-tape words (Listing traced s) m e = absurd (wrong (sym e))
+means-tape words Migrating m e = m
 
 pub is_canonical : (first : Spec) (between : List Spec) (last : Spec) (read written : List ℕ) → last ≡ Din →
     written ≡ through first between last read → through Din [] Din written ≡ written
@@ -471,7 +511,7 @@ is_canonical first between last read written byte_line e =
 pub usage_only : (words : List (List ℕ)) (status : Status) (answer : ℕ) → answer ≡ code_of status →
     MayAnswerWords words status → (answer ≡ 2) ↔ ((c : Command) → Means words c → ⊥)
 usage_only words status answer number may = (
-  λ two. may.usage (same_status status Usage (sym number ∙ two)),
+  λ two. may.usage (same_status status Usage refl (sym number ∙ two)),
   λ none. number ∙ by_status status may none,
 )
   where
@@ -500,7 +540,7 @@ pub read_faults : (reads reads_mid reads_now writes writes_mid : ℕ) (status : 
     (answer ≡ 3 → Rose reads reads_now) × ((answer ≡ 3 → ⊥) → reads_now ≡ reads)
 read_faults reads reads_mid reads_now writes writes_mid status answer number same f = (
   λ three. subst (λ (n : ℕ). Rose reads n) (sym same)
-      (f.read (same_status status (Stopped ReadFault) (sym number ∙ three))),
+      (f.read (same_status status (Stopped ReadFault) refl (sym number ∙ three))),
   λ other. same ∙ f.unread (λ e. other (number ∙ ap code_of e)),
 )
 
@@ -508,14 +548,14 @@ pub write_fault : (reads reads_mid writes writes_mid writes_now : ℕ) (status :
     answer ≡ code_of status → writes_mid ≤ writes_now → Faulted reads reads_mid writes writes_mid status →
     answer ≡ 4 → Rose writes writes_now
 write_fault reads reads_mid writes writes_mid writes_now status answer number later f four =
-    omega (arith, f.write (same_status status (Stopped Refused) (sym number ∙ four)), later)
+    omega (arith, f.write (same_status status (Stopped Refused) refl (sym number ∙ four)), later)
 
 pub no_write_fault : (reads reads_mid writes writes_mid writes_now : ℕ) (status : Status) (answer : ℕ) →
     answer ≡ code_of status → (text_of status ≡ [] → writes_now ≡ writes_mid) →
     Faulted reads reads_mid writes writes_mid status → (answer ≡ 0) ⊎ (answer ≡ 1) → writes_now ≡ writes
 no_write_fault reads reads_mid writes writes_mid writes_now status answer number quiet f e = elim e [
-  | inl zero ↦ by_status Done (same_status status Done (sym number ∙ zero)) refl (λ h. omega (arith, h))
-  | inr one ↦ by_status Noted (same_status status Noted (sym number ∙ one)) refl (λ h. omega (arith, h))
+  | inl zero ↦ by_status Done (same_status status Done refl (sym number ∙ zero)) refl (λ h. omega (arith, h))
+  | inr one ↦ by_status Noted (same_status status Noted refl (sym number ∙ one)) refl (λ h. omega (arith, h))
 ]
   where
     by_status : (s : Status) → status ≡ s → text_of s ≡ [] → (code_of s ≡ 4 → ⊥) → writes_now ≡ writes
@@ -525,13 +565,20 @@ pub wants_memory : (words : List (List ℕ)) (status : Status) (answer : ℕ) �
     MayAnswerWords words status → answer ≡ 9 →
     (c : Command) × Means words c × (may_want_memory c ≡ true)
 wants_memory words status answer number may nine =
-    let same = same_status status NoMemory (sym number ∙ nine) in
+    let same = same_status status NoMemory refl (sym number ∙ nine) in
     let m = may.other (other_status status Usage (λ e. omega (arith, number, nine, e))) in
     (m.0, m.1, subst (MayAnswer m.0) same m.2)
 
 pub noted_alone : (words : List (List ℕ)) (status : Status) (answer : ℕ) → answer ≡ code_of status →
     MayAnswerWords words status → answer ≡ 1 → (s : Spec) × Means words (Listing false s)
 noted_alone words status answer number may one =
-    let same = same_status status Noted (sym number ∙ one) in
+    let same = same_status status Noted refl (sym number ∙ one) in
     let m = may.other (other_status status Usage (λ e. omega (arith, number, one, e))) in
     means-noted words m.0 m.1 (subst (MayAnswer m.0) same m.2)
+
+pub tape_alone : (words : List (List ℕ)) (status : Status) (answer : ℕ) → answer ≡ code_of status →
+    MayAnswerWords words status → answer ≡ 7 → Means words Migrating
+tape_alone words status answer number may seven =
+    let same = bad_tape status (sym number ∙ seven) in
+    let m = may.other (other_status status Usage (λ e. omega (arith, number, seven, e))) in
+    means-tape words m.0 m.1 (subst (MayAnswer m.0) same.1 m.2)

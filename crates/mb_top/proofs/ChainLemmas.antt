@@ -1,5 +1,6 @@
 -- What a chain of specs does, said of its conversion.
-use Rattle.std.proofs.Common.{subst, ◌≡◌, ℕ, zero, suc, ◌+◌, ◌≤◌, Bool, false, not, List, [], ◌∷◌, ◌++◌, length, take}
+use Rattle.std.proofs.Common.{None, subst, ◌≡◌, ℕ, zero, suc, ◌+◌, ◌≤◌, Bool, false, not, List, [], ◌∷◌, ◌++◌, length}
+use Rattle.std.proofs.Common.{take}
 use Rattle.std.proofs.Common.{drop, refl, sym, ◌∙◌, ap, arith}
 use Rattle.std.proofs.lemmas.List.{length-map, length-drop}
 use Rattle.mb_message.specs.Front.{IsFront, IsPart}
@@ -16,7 +17,7 @@ use Rattle.mb_chain.specs.declared.chain.Chain.{Chain}
 use Rattle.mb_chain.proofs.RowLemmas.{live-chain, through-chain, row-closes}
 use Rattle.mb_words.specs.Meaning.{front_of, end_of, converting}
 use Rattle.mb_words.proofs.CommandLemmas.{specs_again}
-use Rattle.mb_top.specs.Output.{output_of, live_output_of, is_whole, arriving, HasNoNotes}
+use Rattle.mb_top.specs.Output.{output_of, live_output_of, is_whole, arriving, HasNoNotes, fault_of}
 use Rattle.mb_top.specs.Job.{ChainOf, JobFed, JobHalted, JobEnded, JobEndHalted}
 
 -- what was written stays written, and the end stands behind it
@@ -76,19 +77,25 @@ chain-of specs chain now same c = record { links = same ∙ c.links; some = c.so
 abbrev Stands : List Spec → Chain → List ℕ → Type 0
 Stands specs chain bytes = ChainOf specs chain × ChainStands chain bytes
 
+no_fault : (tally : Bool) (specs : List Spec) (bytes : List ℕ) → fault_of (converting tally specs) bytes ≡ None
+no_fault tally [] bytes = refl
+no_fault tally (first ∷ []) bytes = refl
+no_fault tally (first ∷ s ∷ specs) bytes = refl
+
 pub chain-fed : (tally : Bool) (specs : List Spec) (chain now : Chain) (piece : List ℕ) (took : List ℕ → Type 0) →
     ChainOf specs chain → chain_links now ≡ chain_links chain →
     ChainFed (chain_links chain) (ChainStands chain) (ChainStands now) piece took →
-    JobFed (converting tally specs) (Stands specs chain) (Stands specs now) piece took
+    JobFed (converting tally specs) (Stands specs chain) (Stands specs now) piece None took
 chain-fed tally specs chain now piece took c same f =
     record {
       given = f.given;
       took_it = f.took_it;
-      stands = λ bytes h. (chain-of specs chain now same h.0, f.stands bytes h.1);
+      stands = λ none bytes h. (chain-of specs chain now same h.0, f.stands bytes h.1);
       beyond = λ bytes h.
           sym (live-is tally specs (chain_links chain) (bytes ++ piece) c.links c.some)
           ∙ (f.beyond bytes h.1 ∙ ap (λ xs. xs ++ f.given)
           (live-is tally specs (chain_links chain) bytes c.links c.some));
+      fault_is = λ bytes h. no_fault tally specs (bytes ++ piece);
     }
 
 pub chain-halted : (tally : Bool) (specs : List Spec) (chain : Chain) (piece : List ℕ) (took : List ℕ → Type 0) →

@@ -10,16 +10,18 @@ use Rattle.mb_outside.specs.TakingLaws.{part-front, part-within, part-differs}
 use Rattle.mb_carrier.specs.Lines.{lines_known}
 use Rattle.mb_carrier.proofs.Fronts.{front-then}
 use Rattle.mb_carrier.proofs.GrowSpecs.{grows}
+use Rattle.std.specs.Prelude.{Option, Some, None}
+use Rattle.mb_frames.specs.declared.tape.TapeFault.{TapeFault}
 use Rattle.mb_top.proofs.ChainLemmas.{chain-none}
 use Rattle.mb_top.proofs.JobLemmas.{command-stays, command-closes}
-use Rattle.mb_words.specs.Command.{Command, Converting, Listing}
-use Rattle.mb_top.specs.Output.{output_of, is_whole, live_output_of, tally_of}
+use Rattle.mb_words.specs.Command.{Command, Converting, Listing, Migrating}
+use Rattle.mb_top.specs.Output.{fault_of, output_of, is_whole, live_output_of, tally_of}
 use Rattle.mb_top.specs.Job.{JobFed, JobHalted, JobEnded, JobEndHalted, JobTold, JobTellHalted, Remarked}
 use Rattle.mb_top.specs.Answer.{EndsAs, DidAll, all_but_last, PIECE}
 use Rattle.mb_top.specs.Ran.{Ran, RanEnd, MayAnswer, at_end, written_of}
 use Rattle.mb_top.specs.declared.status.Status.{Status}
 use Rattle.mb_top.specs.declared.status.Status.TheVariants.{Stopped}
-use Rattle.mb_top.specs.declared.status.Stop.TheVariants.{ReadFault, Refused, TooLong}
+use Rattle.mb_top.specs.declared.status.Stop.TheVariants.{ReadFault, Refused, TooLong, BadTape}
 
 not-true : (b : Bool) → true ≡ not b → b ≡ false
 not-true true e = cc
@@ -29,14 +31,21 @@ not-false : (b : Bool) → false ≡ not b → b ≡ true
 not-false true e = refl
 not-false false e = cc
 
--- these bytes were read, and what is known of them was written
+-- these bytes were read, which have no fault, and what is known of them was written
 pub record SoFar (c : Command) (before now : Contents) (bytes : List ℕ) : Type 0 where
   pub front : IsFront bytes (before.left 0)
   pub contents : now ≡ after_write 1 (live_output_of c bytes) (after_read 0 (length bytes) before)
+  pub sound : fault_of c bytes ≡ None
 
 live-none : (c : Command) → live_output_of c [] ≡ []
 live-none (Converting tally first between last) = chain-none first between last
 live-none (Listing traced s) = ap (lines_known traced s) (grows s).nothing_known
+live-none Migrating = refl
+
+sound-none : (c : Command) → fault_of c [] ≡ None
+sound-none (Converting tally first between last) = refl
+sound-none (Listing traced s) = refl
+sound-none Migrating = refl
 
 pub so_far-none : (c : Command) (before : Contents) → SoFar c before before []
 so_far-none c before =
@@ -46,6 +55,7 @@ so_far-none c before =
           sym
           (ap (λ (out : List ℕ). after_write 1 out (after_read 0 0 before)) (live-none c)
           ∙ (after_write-none 1 (after_read 0 0 before) ∙ after_read-none 0 before));
+      sound = sound-none c;
     }
 
 -- what is left behind a front
@@ -83,19 +93,27 @@ read-piece c before old now bytes buffer piece count s g cut =
           (sym (length-append bytes piece ∙ ap (λ n. length bytes + n) size)))));
     }
 
+-- what the next piece gave was written
+written-more : (c : Command) (before old now : Contents) (bytes piece given : List ℕ) →
+    Read c before old bytes piece → now ≡ after_write 1 given old →
+    live_output_of c (bytes ++ piece) ≡ live_output_of c bytes ++ given →
+    now ≡ after_write 1 (live_output_of c (bytes ++ piece)) (after_read 0 (length (bytes ++ piece)) before)
+written-more c before old now bytes piece given r wrote beyond =
+    wrote
+    ∙ (ap (after_write 1 given) r.contents
+    ∙ (after_write-twice 1 (live_output_of c bytes) given (after_read 0 (length (bytes ++ piece)) before)
+    ∙ ap (λ (out : List ℕ). after_write 1 out (after_read 0 (length (bytes ++ piece)) before)) (sym beyond)))
+
 -- the next piece was written
 pub so_far-more : (c : Command) (before old now : Contents) (bytes piece given : List ℕ) →
     Read c before old bytes piece → now ≡ after_write 1 given old →
-    live_output_of c (bytes ++ piece) ≡ live_output_of c bytes ++ given →
+    live_output_of c (bytes ++ piece) ≡ live_output_of c bytes ++ given → fault_of c (bytes ++ piece) ≡ None →
     SoFar c before now (bytes ++ piece)
-so_far-more c before old now bytes piece given r wrote beyond =
+so_far-more c before old now bytes piece given r wrote beyond sound =
     record {
       front = r.front;
-      contents =
-          wrote
-          ∙ (ap (after_write 1 given) r.contents
-          ∙ (after_write-twice 1 (live_output_of c bytes) given (after_read 0 (length (bytes ++ piece)) before)
-          ∙ ap (λ (out : List ℕ). after_write 1 out (after_read 0 (length (bytes ++ piece)) before)) (sym beyond)));
+      contents = written-more c before old now bytes piece given r wrote beyond;
+      sound = sound;
     }
 
 -- the same with nothing told of a tally
@@ -116,7 +134,7 @@ ran-read_fault c limit before now bytes within s =
           quietly bytes _ before now s.contents;
       front = s.front;
       within = within;
-      ends = (refl, refl);
+      ends = (refl, refl, s.sound);
     }
 
 pub ran-too_long : (c : Command) (limit : ℕ) (before now : Contents) (bytes : List ℕ) →
@@ -131,8 +149,32 @@ ran-too_long c limit before now bytes same s =
       front = s.front;
       within = omega (arith, same);
       ends =
-          (same, refl, refl);
+          (same, refl, refl, s.sound);
     }
+
+-- a piece has a fault, up to which it was written
+pub ran-bad_tape : (c : Command) (limit count : ℕ) (before old now : Contents) (bytes piece given : List ℕ)
+    (f : TapeFault) →
+    length piece ≡ count → length bytes + count ≤ limit → Read c before old bytes piece →
+    now ≡ after_write 1 given old → live_output_of c (bytes ++ piece) ≡ live_output_of c bytes ++ given →
+    fault_of c (bytes ++ piece) ≡ Some f → Ran c limit before now (Stopped (BadTape f))
+ran-bad_tape c limit count before old now bytes piece given f size within r wrote beyond fault_is =
+    record {
+      input = bytes ++ piece;
+      output = live_output_of c (bytes ++ piece);
+      tally = [];
+      contents = quietly (bytes ++ piece) _ before now
+          (written-more c before old now bytes piece given r wrote beyond);
+      front = r.front;
+      within = omega (arith, length-append bytes piece, size);
+      ends = (refl, refl, fault_is);
+    }
+
+pub may-bad_tape : (c : Command) (input : List ℕ) (f : TapeFault) → fault_of c input ≡ Some f →
+    MayAnswer c (Stopped (BadTape f))
+may-bad_tape (Converting tally first between last) input f e = cc
+may-bad_tape (Listing traced s) input f e = cc
+may-bad_tape Migrating input f e = refl
 
 -- the end was read
 pub at-end : (c : Command) (before old now : Contents) (bytes buffer : List ℕ) (count : ℕ) →
@@ -143,6 +185,7 @@ at-end c before old now bytes buffer count s g none room = (
     front = s.front;
     contents = ((g.contents ∙ ap (λ (n : ℕ). after_read 0 n old) none)
         ∙ after_read-none 0 old) ∙ s.contents;
+    sound = s.sound;
   },
   (s.front).1 ∙ (ap (λ xs. bytes ++ xs) (sym (left-now c before old bytes s) ∙ g.ends none room) ∙ append-nil bytes),
 )
@@ -165,7 +208,8 @@ ran-end c d limit before old now bytes status same below s all r =
       ends =
           subst (λ (xs : List ℕ). EndsAs c limit xs bytes (live_output_of c bytes ++ r.output) r.tally status) (sym all)
           (subst (λ (x : Command). EndsAs x limit bytes bytes
-          (live_output_of x bytes ++ r.output) r.tally status) same (r.ends limit below));
+          (live_output_of x bytes ++ r.output) r.tally status) same
+          (r.ends limit below (ap (λ (x : Command). fault_of x bytes) same ∙ s.sound)));
     }
 
 -- the answer at the end, by whether the input is cut and whether it was remarked
@@ -188,11 +232,12 @@ end-ran c d before mid now bytes was done cut noted took tells status same_comma
       output = e.given;
       tally = t.given;
       contents = told ∙ ap (after_write 2 t.given) wrote;
-      ends = λ limit below.
+      ends = λ limit below sound.
           let w : DidAll c limit bytes bytes (live_output_of c bytes ++ e.given) t.given =
           record {
             all = refl;
             below = below;
+            sound = sound;
             output_is = sym (e.beyond bytes stands);
             tally_is = t.tally bytes (e.stands bytes stands) ∙ ap (λ (x : Command). tally_of x bytes) same_command;
           } in
@@ -214,6 +259,7 @@ may-end c was done cut noted took status bytes same stands e = subst (MayAnswer 
     by_tests (Converting tally first between last) false true h = absurd h
     by_tests (Listing true s) false true h = absurd h
     by_tests (Listing false s) false true h = refl
+    by_tests Migrating false true h = absurd h
 
 pub cut-at : (d c : Command) (cut : Bool) (bytes : List ℕ) → d ≡ c → cut ≡ not (is_whole d bytes) →
     cut ≡ not (is_whole c bytes)
@@ -254,7 +300,7 @@ end-halted c before now bytes was took stands h wrote =
       output = h.given;
       tally = [];
       contents = wrote ∙ sym (after_write-none 2 (after_write 1 h.given before));
-      ends = λ limit below. record {
+      ends = λ limit below sound. record {
         front = part-front _ _ (h.part bytes stands);
         at_least = known-front c bytes h.given;
         tally_front = (tally_of c bytes, refl);
@@ -274,7 +320,7 @@ tell-halted c d before mid now bytes was done noted took tells same_command stan
       output = e.given;
       tally = h.given;
       contents = told ∙ ap (after_write 2 h.given) wrote;
-      ends = λ limit below. record {
+      ends = λ limit below sound. record {
         front = ([], e.beyond bytes stands ∙ sym (append-nil (live_output_of c bytes ++ e.given)));
         at_least = known-front c bytes e.given;
         tally_front = part-front _ _ (tally_part same_command (h.part bytes (e.stands bytes stands)));
@@ -318,9 +364,12 @@ ran-halted c limit count before old now bytes piece given size within few s wrot
     whole = part-within _ _ _ part (command-closes c (bytes ++ piece))
 
 -- what a job says, at the command that it began with
-pub fed-at : (d c : Command) (was now : List ℕ → Type 0) (piece : List ℕ) (took : List ℕ → Type 0) → d ≡ c →
-    JobFed d was now piece took → JobFed c was now piece took
-fed-at d c was now piece took same f = subst (λ (x : Command). JobFed x was now piece took) same f
+pub fed-at : (d c : Command) (was now : List ℕ → Type 0) (piece : List ℕ) (fault other : Option TapeFault)
+    (took : List ℕ → Type 0) → d ≡ c → fault ≡ other →
+    JobFed d was now piece fault took → JobFed c was now piece other took
+fed-at d c was now piece fault other took same told f =
+    subst (λ (x : Option TapeFault). JobFed c was now piece x took) told
+    (subst (λ (x : Command). JobFed x was now piece fault took) same f)
 
 pub halted-at : (d c : Command) (was : List ℕ → Type 0) (piece : List ℕ) (took : List ℕ → Type 0) → d ≡ c →
     JobHalted d was piece took → JobHalted c was piece took
@@ -338,7 +387,7 @@ piece-size filled rest count within = length-take-le count (filled ++ rest) (ome
 -- one more piece went through
 pub so_far-fed : {S : Type 0} (tells : Bool) (contents : S → Contents) (read_faults : S → ℕ) (c : Command)
     (was goes : List ℕ → Type 0) (start old mid now : S) (bytes piece buffer : List ℕ) (taken count : ℕ) →
-    JobFed c was goes piece (λ given. Wrote tells contents read_faults 1 mid given now) →
+    JobFed c was goes piece None (λ given. Wrote tells contents read_faults 1 mid given now) →
     length bytes ≡ taken → length piece ≡ count → was bytes →
     (IsTrue tells → SoFar c (contents start) (contents old) bytes) →
     (IsTrue tells → Gives (contents old) (contents mid) 0 count buffer) → piece ≡ take count buffer →
@@ -348,8 +397,8 @@ so_far-fed tells contents read_faults c was goes start old mid now bytes piece b
     told gives cut = (
       bytes ++ piece,
       omega (arith, length-append bytes piece, size, more),
-      f.stands bytes stands,
+      f.stands refl bytes stands,
       λ t. so_far-more c (contents start) (contents mid) (contents now) bytes piece f.given
           (read-piece c (contents start) (contents old) (contents mid) bytes buffer piece count (told t) (gives t) cut)
-          (f.took_it.contents_are t) (f.beyond bytes stands),
+          (f.took_it.contents_are t) (f.beyond bytes stands) (f.fault_is bytes stands),
     )

@@ -5,16 +5,16 @@
 --   RanWords words ..      the same for words, which may mean no command
 --   Faulted ..             a fault of reading or writing came exactly where the status tells of one
 --   at_end cut noted       how a command ends at the end of its input
-use Rattle.std.specs.Prelude.{◌≡◌, ℕ, ◌<◌, ◌≤◌, Bool, true, false, List, [], ◌++◌, length}
+use Rattle.std.specs.Prelude.{◌≡◌, ℕ, ◌<◌, ◌≤◌, Bool, true, false, List, [], ◌++◌, length, None}
 use Rattle.mb_outside.specs.Cause.{Rose}
 use Rattle.mb_outside.specs.Contents.{Contents, after_read, after_write}
 use Rattle.mb_message.specs.Front.{IsFront}
 use Rattle.mb_words.specs.Command.{Command, Means}
-use Rattle.mb_top.specs.Output.{live_output_of, may_want_memory, answers_notes}
+use Rattle.mb_top.specs.Output.{live_output_of, may_want_memory, answers_notes, fault_of, reads_tape}
 use Rattle.mb_top.specs.Answer.{EndsAs}
 use Rattle.mb_top.specs.declared.status.Status.{Status}
 use Rattle.mb_top.specs.declared.status.Status.TheVariants.{Done, Noted, Usage, Cut, NoMemory, Stopped}
-use Rattle.mb_top.specs.declared.status.Stop.TheVariants.{ReadFault, Refused}
+use Rattle.mb_top.specs.declared.status.Stop.TheVariants.{ReadFault, Refused, BadTape}
 
 -- standard input was read, standard output written, and a tally to standard error
 abbrev pub written_of : (input output tally : List ℕ) → Contents → Contents
@@ -52,19 +52,21 @@ at_end true noted = Cut
 at_end false true = Noted
 at_end false false = Done
 
--- the end of an input, of which what is known was written before
+-- the end of an input without a fault, of which what is known was written before
 pub record RanEnd (c : Command) (bytes : List ℕ) (before after : Contents) (status : Status) : Type 0 where
   pub output : List ℕ
   pub tally : List ℕ
   pub contents : after ≡ after_write 2 tally (after_write 1 output before)
-  pub ends : (limit : ℕ) → length bytes < limit →
+  pub ends : (limit : ℕ) → length bytes < limit → fault_of c bytes ≡ None →
       EndsAs c limit bytes bytes (live_output_of c bytes ++ output) tally status
 
--- want of memory is answered of commands alone that may want it, notes of `check` alone
+-- want of memory is answered of commands alone that may want it, notes of `check` alone, a fault of those that read a
+-- tape
 abbrev pub MayAnswer : Command → Status → Type 0
 MayAnswer c Usage = ⊥
 MayAnswer c NoMemory = may_want_memory c ≡ true
 MayAnswer c Noted = answers_notes c ≡ true
+MayAnswer c (Stopped (BadTape f)) = reads_tape c ≡ true
 MayAnswer c _ = Unit {0}
 
 pub record MayAnswerWords (words : List (List ℕ)) (status : Status) : Type 0 where

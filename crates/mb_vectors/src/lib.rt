@@ -24,4 +24,6 @@ mod row;
 #[cfg(test)]
 mod so_far;
 #[cfg(test)]
+mod tapes;
+#[cfg(test)]
 mod words;

@@ -22,6 +22,7 @@ fn command_of(rt: &impl Abort, alloc: Global, words: &[&str]) -> ArrayVec<u8, 64
         Ok(Command::Check(Spec::Usb(_))) => b"check",
         Ok(Command::Check(Spec::Fire(_))) => b"check of FireWire",
         Ok(Command::Check(Spec::Ble(20))) => b"check of BLE-MIDI",
+        Ok(Command::Migrate) => b"migrate",
         Ok(_) => b"another",
         Err(_) => b"none",
     });
@@ -41,6 +42,8 @@ const WORDS: &[(&[&str], &[u8])] = &[
     (&["check", "ble/512"], b"another"),
     (&["check", "ble/513"], b"none"),
     (&["convert", "tally"], b"none"),
+    (&["migrate"], b"migrate"),
+    (&["migrate", "din"], b"none"),
 ];
 
 #[test]

@@ -6,7 +6,8 @@ use Rattle.mb_carrier.specs.Word.{IsWordOf, IsSpec, AreSpecs}
 use Rattle.mb_carrier.specs.declared.spec.Spec.{Spec}
 use Rattle.mb_carrier.specs.declared.spec.Spec.TheVariants.{Din, Usb, Fire, Ble}
 use Rattle.mb_carrier.proofs.WordLemmas.{one_spec, word-is_spec, first_letter, size-letter}
-use Rattle.mb_words.specs.Command.{Command, Converting, Listing, Means, AreWordsOf, name_of, asks_tally, specs_of}
+use Rattle.mb_words.specs.Command.{Command, Converting, Listing, Migrating, Means, AreWordsOf, name_of, asks_tally}
+use Rattle.mb_words.specs.Command.{specs_of}
 use Rattle.mb_words.specs.Meaning.{front_of, end_of, converting}
 
 pub heads : (x y : List ℕ) (xs ys : List (List ℕ)) → x ∷ xs ≡ y ∷ ys → x ≡ y
@@ -91,7 +92,8 @@ abbrev rebuilt : (name : List ℕ) (tally : Bool) (specs : List Spec) → Comman
 rebuilt name tally specs =
     if bytes_eq name (codes "convert") then converting tally specs
     else (if bytes_eq name (codes "trace") then Listing true (first_of specs)
-    else Listing false (first_of specs))
+    else (if bytes_eq name (codes "migrate") then Migrating
+    else Listing false (first_of specs)))
 
 front_again : (s : Spec) (between : List Spec) (last : Spec) → front_of s (between ++ last ∷ []) ≡ s ∷ between
 front_again s [] last = refl
@@ -113,6 +115,7 @@ again : (c : Command) → rebuilt (name_of c) (asks_tally c) (specs_of c) ≡ c
 again (Converting tally first between last) = converting_again tally first between last
 again (Listing true s) = refl
 again (Listing false s) = refl
+again Migrating = refl
 
 pub one_command : (words : List (List ℕ)) (c d : Command) → Means words c → Means words d → c ≡ d
 one_command words c d m n =

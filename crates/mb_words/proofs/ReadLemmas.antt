@@ -5,7 +5,7 @@ use Rattle.std.specs.Prelude.{slice_get, slice_index_or, Option, Some, None, IfN
 use Rattle.std.proofs.lemmas.List.{length-drop, append-nil}
 use Rattle.mb_carrier.specs.Word.{IsWordOf}
 use Rattle.mb_carrier.specs.declared.spec.Spec.{Spec}
-use Rattle.mb_words.specs.Command.{Command, Converting, Listing, Means, AreWordsOf, name_of, listing_word}
+use Rattle.mb_words.specs.Command.{Command, Converting, Listing, Migrating, Means, AreWordsOf, name_of, listing_word}
 use Rattle.mb_words.specs.Meaning.{converting, place_of_specs}
 use Rattle.mb_words.proofs.CommandLemmas.{as_many, no_tally, specs_again, front_length}
 
@@ -74,11 +74,13 @@ abbrev letter_at : (place : ℕ) → List ℕ → ℕ
 letter_at place letters = slice_index_or letters place 0
 
 pub no_name : (words : List (List ℕ)) (w : List ℕ) (c : Command) → slice_get words 0 ≡ Some w →
-    (w ≡ codes "convert" → ⊥) → (w ≡ codes "trace" → ⊥) → (w ≡ codes "check" → ⊥) → Means words c → ⊥
-no_name words w (Converting tally first between last) e convert trace check m = convert
+    (w ≡ codes "convert" → ⊥) → (w ≡ codes "trace" → ⊥) → (w ≡ codes "check" → ⊥) → (w ≡ codes "migrate" → ⊥) →
+    Means words c → ⊥
+no_name words w (Converting tally first between last) e convert trace check migrate m = convert
     (first_word words w (Converting tally first between last) m e)
-no_name words w (Listing true s) e convert trace check m = trace (first_word words w (Listing true s) m e)
-no_name words w (Listing false s) e convert trace check m = check (first_word words w (Listing false s) m e)
+no_name words w (Listing true s) e convert trace check migrate m = trace (first_word words w (Listing true s) m e)
+no_name words w (Listing false s) e convert trace check migrate m = check (first_word words w (Listing false s) m e)
+no_name words w Migrating e convert trace check migrate m = migrate (first_word words w Migrating m e)
 
 -- a listing
 
@@ -124,6 +126,12 @@ only_listing words false (Converting tally first between last) e m =
     (first_word words (listing_word false) (Converting tally first between last) m e) in absurd
     (omega (arith, differ)))
 only_listing words traced (Listing v s) e m = is_listing words v s m
+only_listing words true Migrating e m =
+    (let differ : 116 ≡ 109 = ap (letter_at 0) (first_word words (listing_word true) Migrating m e) in absurd
+    (omega (arith, differ)))
+only_listing words false Migrating e m =
+    (let differ : 99 ≡ 109 = ap (letter_at 0) (first_word words (listing_word false) Migrating m e) in absurd
+    (omega (arith, differ)))
 
 -- a conversion
 
@@ -194,6 +202,31 @@ only_conversion words tally (Listing true s) e asked unasked m =
     (omega (arith, differ)))
 only_conversion words tally (Listing false s) e asked unasked m =
     (let differ : 111 ≡ 104 = ap (letter_at 1) (first_word words (codes "convert") (Listing false s) m e) in absurd
+    (omega (arith, differ)))
+only_conversion words tally Migrating e asked unasked m =
+    (let differ : 99 ≡ 109 = ap (letter_at 0) (first_word words (codes "convert") Migrating m e) in absurd
+    (omega (arith, differ)))
+
+-- a migration
+
+pub migration-means : (words : List (List ℕ)) → slice_get words 0 ≡ Some (codes "migrate") → length words ≡ 1 →
+    Means words Migrating
+migration-means words name one =
+    record { arguments = []; words_are = single words (codes "migrate") one name; are_specs = tt; built = tt }
+
+pub only_migration : (words : List (List ℕ)) (c : Command) → slice_get words 0 ≡ Some (codes "migrate") →
+    Means words c → length words ≡ 1
+only_migration words Migrating e m =
+    let none = as_many m.arguments [] m.are_specs in omega (arith, ap length m.words_are, none)
+only_migration words (Converting tally first between last) e m =
+    (let differ : 109 ≡ 99 = ap (letter_at 0)
+    (first_word words (codes "migrate") (Converting tally first between last) m e) in absurd
+    (omega (arith, differ)))
+only_migration words (Listing true s) e m =
+    (let differ : 109 ≡ 116 = ap (letter_at 0) (first_word words (codes "migrate") (Listing true s) m e) in absurd
+    (omega (arith, differ)))
+only_migration words (Listing false s) e m =
+    (let differ : 109 ≡ 99 = ap (letter_at 0) (first_word words (codes "migrate") (Listing false s) m e) in absurd
     (omega (arith, differ)))
 
 pub none_some : {A : Type 0} (r : Option A) (x : A) → r ≡ None → r ≡ Some x → ⊥

@@ -1,6 +1,7 @@
 -- What the words of a command line mean: the project's own.
 --
---   Command                 a conversion by two or more specs, or the listing of a recording
+--   Command                 a conversion by two or more specs, the listing of a recording, or a tape that is written
+--                           once more in the second form
 --   name_of c               its first word
 --   asks_tally c            whether it is asked how many bytes cross each spec
 --   options_of c            the words between its name and its specs
@@ -14,6 +15,7 @@ use Rattle.mb_carrier.specs.declared.spec.Spec.{Spec}
 pub data Command : Type 0 where
   Converting : (tally : Bool) (first : Spec) (between : List Spec) (last : Spec) → Command
   Listing : (traced : Bool) (s : Spec) → Command
+  Migrating : Command
 
 -- `trace` prints marks and notes, `check` notes alone
 abbrev pub listing_word : (traced : Bool) → List ℕ
@@ -22,10 +24,12 @@ listing_word traced = if traced then codes "trace" else codes "check"
 abbrev pub name_of : Command → List ℕ
 name_of (Converting tally first between last) = codes "convert"
 name_of (Listing traced s) = listing_word traced
+name_of Migrating = codes "migrate"
 
 abbrev pub asks_tally : Command → Bool
 asks_tally (Converting tally first between last) = tally
 asks_tally (Listing traced s) = false
+asks_tally Migrating = false
 
 abbrev pub options_of : Command → List (List ℕ)
 options_of c = if asks_tally c then codes "tally" ∷ [] else []
@@ -33,6 +37,7 @@ options_of c = if asks_tally c then codes "tally" ∷ [] else []
 abbrev pub specs_of : Command → List Spec
 specs_of (Converting tally first between last) = first ∷ (between ++ last ∷ [])
 specs_of (Listing traced s) = s ∷ []
+specs_of Migrating = []
 
 abbrev pub AreWordsOf : (words : List (List ℕ)) → List Spec → Type 0
 AreWordsOf [] [] = Unit {0}
@@ -44,6 +49,7 @@ AreWordsOf (word ∷ words) (s ∷ specs) = IsWordOf word s × AreWordsOf words 
 abbrev pub IsBuilt : Command → Type 0
 IsBuilt (Converting tally first between last) = length between ≤ 8
 IsBuilt (Listing traced s) = Unit {0}
+IsBuilt Migrating = Unit {0}
 
 pub record Means (words : List (List ℕ)) (c : Command) : Type 0 where
   pub arguments : List (List ℕ)

@@ -9,7 +9,7 @@ use Rattle.mb_carrier.specs.declared.spec.Spec.{Spec}
 use Rattle.mb_carrier.specs.declared.spec.Spec.TheVariants as spec
 use Rattle.mb_words.specs.Command as mean
 use Rattle.mb_words.specs.declared.command.Command.{Command}
-use Rattle.mb_words.specs.declared.command.Command.TheVariants.{Convert, Trace, Check}
+use Rattle.mb_words.specs.declared.command.Command.TheVariants.{Convert, Trace, Check, Migrate}
 
 abbrev pub place_of_specs : (tally : Bool) → ℕ
 place_of_specs tally = if tally then 2 else 1
@@ -36,8 +36,10 @@ abbrev pub meaning : Command → mean.Command
 meaning (Convert tally specs) = converting tally specs.items
 meaning (Trace s) = mean.Listing true s
 meaning (Check s) = mean.Listing false s
+meaning Migrate = mean.Migrating
 
 abbrev pub IsWithin : Command → Type 0
 IsWithin (Convert tally specs) = AreSpecs specs.items × (2 ≤ length specs.items) × (length specs.items ≤ 10)
 IsWithin (Trace s) = IsSpec s
 IsWithin (Check s) = IsSpec s
+IsWithin Migrate = Unit {0}

@@ -16,4 +16,6 @@ pub enum Command {
     Trace(Spec),
     /// Print the notes of a recording.
     Check(Spec),
+    /// Write a tape once more, in the second form.
+    Migrate,
 }

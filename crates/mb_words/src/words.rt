@@ -49,6 +49,8 @@ fn read_command(words: &Args) -> Option<Command>
         read_listing(words, true)
     } else if name == "check" {
         read_listing(words, false)
+    } else if name == "migrate" {
+        read_migration(words)
     } else {
         None
     }
@@ -76,6 +78,20 @@ fn listing_of(traced: bool, spec: Spec) -> Command
         Command::Trace(spec)
     } else {
         Command::Check(spec)
+    }
+}
+
+/// `migrate`, alone.
+fn read_migration(words: &Args) -> Option<Command>
+    requires { slice_get words.now 0 ≡ Some (codes "migrate") }
+    ensures found { IfSome result (λ c. Means words.now (meaning c)) }
+    ensures within { IfSome result IsWithin }
+    ensures only { IfNone result ((c : words_mean.Command) → Means words.now c → ⊥) }
+{
+    if words.len() == 1 {
+        Some(Command::Migrate)
+    } else {
+        None
     }
 }
 

@@ -1,15 +1,16 @@
 use Rattle.std.proofs.Common.{◌∙◌, ◌++◌, refl, sym, ap, subst, arith}
 use Rattle.mb_carrier.specs.Carrier.{den, notes_of, whole}
 use Rattle.mb_carrier.proofs.ConversionLemmas.{through-means, through-clean, through-whole}
-use Rattle.mb_words.specs.Command.{Converting, Listing}
+use Rattle.mb_words.specs.Command.{Converting, Listing, Migrating}
 use Rattle.mb_words.proofs.CommandLemmas.{written_specs}
 use Rattle.mb_top.specs.Output.{HasNotes, HasNoNotes}
 use Rattle.mb_top.specs.Answer.{Says, code_of, read_all}
 use Rattle.mb_top.specs.declared.status.Status.TheVariants.{Done, Noted}
 use Rattle.mb_top.proofs.AnswerLemmas.{answered, went_through, ends-at_status, cut-at_end, reads_all, completes}
 use Rattle.mb_top.proofs.AnswerLemmas.{is_canonical, usage_only, is_meant, read_faults, write_fault, no_write_fault}
-use Rattle.mb_top.proofs.AnswerLemmas.{wants_memory, noted_alone}
 use Rattle.mb_top.proofs.DistanceLemmas.{keeps_distances}
+use Rattle.mb_top.proofs.AnswerLemmas.{wants_memory, noted_alone, no_fault, tape_alone}
+use Rattle.mb_top.proofs.MigrationLemmas as tape
 use Rattle.mb_top.proofs.SoFarLemmas.{live_written, so_far-lacks, so_far-held, so_far-stays, so_far-ends, so_far-front}
 use Rattle.mb_top.proofs.entry.bridge_within.Goals as goal
 
@@ -99,12 +100,12 @@ returns-clause-listed g c = λ traced s tells m all.
 
 pub returns-clause-no_note : goal.returns-clause-no_note
 returns-clause-no_note g c = λ command s tells m reads zero.
-    let d = ends-at_status _ _ _ _ _ _ _ command Done zero m (returns-clause-contents g c tells) in
+    let d = ends-at_status _ _ _ _ _ _ _ command Done refl zero m (returns-clause-contents g c tells) in
     subst (HasNoNotes command) (sym (d.0).all) d.2
 
 pub returns-clause-a_note : goal.returns-clause-a_note
 returns-clause-a_note g c = λ command s tells m reads one.
-    let d = ends-at_status _ _ _ _ _ _ _ command Noted one m (returns-clause-contents g c tells) in
+    let d = ends-at_status _ _ _ _ _ _ _ command Noted refl one m (returns-clause-contents g c tells) in
     subst (HasNotes command) (sym (d.0).all) d.2
 
 pub returns-clause-all_read : goal.returns-clause-all_read
@@ -129,7 +130,8 @@ returns-clause-reads_all g c = λ command s tells m reads unhindered short unwan
     (c.code.ensures ∙ ap code_of e))
     (λ e. write_fault _ _ _ _ _ c.run-status.result _ c.code.ensures c.say.ensures.writes c.run-status.ensures.faults
     (c.code.ensures ∙ ap code_of e))
-    unhindered.reading unhindered.writing short (c.run-status.ensures.ran tells)
+    unhindered.reading unhindered.writing short (λ input f front. no_fault command s input f reads)
+    (c.run-status.ensures.ran tells)
 
 pub returns-clause-complete : goal.returns-clause-complete
 returns-clause-complete g c = λ tally first between last tells m unhindered short is_whole.
@@ -160,3 +162,42 @@ returns-clause-memory g c = wants_memory _ c.run-status.result _ c.code.ensures 
 
 pub returns-clause-noted_alone : goal.returns-clause-noted_alone
 returns-clause-noted_alone g c = noted_alone _ c.run-status.result _ c.code.ensures c.run-status.ensures.may
+
+pub returns-clause-bad_tape_alone : goal.returns-clause-bad_tape_alone
+returns-clause-bad_tape_alone g c = tape_alone _ c.run-status.result _ c.code.ensures c.run-status.ensures.may
+
+pub returns-clause-given : goal.returns-clause-given
+returns-clause-given g c = λ tells. (returns-clause-contents g c tells).given
+
+pub returns-clause-migrated : goal.returns-clause-migrated
+returns-clause-migrated g c = λ tells m other.
+    (tape.migrated _ _ _ _ _ _ _ m other (returns-clause-contents g c tells)).written_is
+
+pub returns-clause-same_records : goal.returns-clause-same_records
+returns-clause-same_records g c = λ tells m other bytes.
+    tape.same-records _ _ (returns-clause-migrated g c tells m other) bytes
+
+pub returns-clause-migrated_part : goal.returns-clause-migrated_part
+returns-clause-migrated_part g c = λ tells m four.
+    tape.migrated-part _ _ _ _ _ _ _ m four (returns-clause-contents g c tells)
+
+pub returns-clause-bad_tape : goal.returns-clause-bad_tape
+returns-clause-bad_tape g c = λ tells m other.
+    (tape.migrated _ _ _ _ _ _ _ m other (returns-clause-contents g c tells)).fault
+
+pub returns-clause-cut_tape : goal.returns-clause-cut_tape
+returns-clause-cut_tape g c = λ tells m other.
+    (tape.migrated _ _ _ _ _ _ _ m other (returns-clause-contents g c tells)).end
+
+pub returns-clause-migrates : goal.returns-clause-migrates
+returns-clause-migrates g c = λ tells m unhindered short is_whole.
+    tape.completes _ _ _ _ _ _ _ m
+    (ap read_all c.code.ensures
+    ∙ reads_all _ _ _ _ _ _ c.run-status.result Migrating m c.run-status.ensures.may refl
+    (λ e. (read_faults _ _ _ _ _ c.run-status.result _ c.code.ensures c.say.ensures.reads c.run-status.ensures.faults).0
+    (c.code.ensures ∙ ap code_of e))
+    (λ e. write_fault _ _ _ _ _ c.run-status.result _ c.code.ensures c.say.ensures.writes c.run-status.ensures.faults
+    (c.code.ensures ∙ ap code_of e))
+    unhindered.reading unhindered.writing short (λ input f front. tape.whole-no_fault _ input f is_whole front)
+    (c.run-status.ensures.ran tells))
+    is_whole (returns-clause-contents g c tells)

@@ -1,7 +1,7 @@
-use Rattle.std.proofs.Common.{◌∙◌, [], refl, arith}
+use Rattle.std.proofs.Common.{◌≡◌, ◌∙◌, [], Some, None, refl, arith}
 use Rattle.std.proofs.lemmas.Grind.{common_steps}
 use Rattle.mb_top.proofs.StreamLemmas.{read-piece, at-end, ran-end, ran-halted, fed-at, halted-at, piece-is, piece-size}
-use Rattle.mb_top.proofs.StreamLemmas.{so_far-none, so_far-fed}
+use Rattle.mb_top.proofs.StreamLemmas.{so_far-none, so_far-fed, ran-bad_tape, may-bad_tape}
 use Rattle.mb_top.proofs.stream.stream.Goals as goal
 
 pub returns-then-count-eq0-clause-ran : goal.returns-then-count-eq0-clause-ran
@@ -22,6 +22,25 @@ returns-in-Err-clause-ran g c = λ tells.
     (grind (arith, common_steps, fed.1)) (grind (arith, common_steps)) read (halted.took_it.contents_are tells)
     (halted.part fed.0 fed.2)
 
+pub returns-in-Ok-Some-clause-ran : goal.returns-in-Ok-Some-clause-ran
+returns-in-Ok-Some-clause-ran g c = λ tells.
+    let so_far = c.pieces.invariant.fed in
+    let fault : c.in-Ok-Some.field-0 ≡ Some c.in-Ok-Some.fault = c.in-Ok-Some.field-0-is in
+    let piece = fed-at _ _ _ _ _ _ _ _ c.pieces.invariant.command fault c.in-Ok-Some.ensures.fed in
+    let read = read-piece _ _ _ _ so_far.0 _ _ c.in-Ok.count (so_far.3 tells) (c.in-Ok.ensures.contents tells)
+    (piece-is _ _ c.in-Ok.count c.in-Ok.ensures.bound) in
+    ran-bad_tape _ _ c.in-Ok.count _ _ _ so_far.0 _ piece.given c.in-Ok-Some.fault
+    (piece-size _ _ c.in-Ok.count c.in-Ok.ensures.bound)
+    (grind (arith, common_steps, so_far.1)) read (piece.took_it.contents_are tells) (piece.beyond so_far.0 so_far.2)
+    (piece.fault_is so_far.0 so_far.2)
+
+pub returns-in-Ok-Some-clause-may : goal.returns-in-Ok-Some-clause-may
+returns-in-Ok-Some-clause-may g c =
+    let so_far = c.pieces.invariant.fed in
+    let fault : c.in-Ok-Some.field-0 ≡ Some c.in-Ok-Some.fault = c.in-Ok-Some.field-0-is in
+    let piece = fed-at _ _ _ _ _ _ _ _ c.pieces.invariant.command fault c.in-Ok-Some.ensures.fed in
+    may-bad_tape _ _ c.in-Ok-Some.fault (piece.fault_is so_far.0 so_far.2)
+
 pub pieces-init : goal.pieces-init
 pieces-init g c =
     record {
@@ -37,13 +56,14 @@ pub pieces-preserved : goal.pieces-preserved
 pieces-preserved g c =
     let inv = c.pieces.invariant in
     let fed = inv.fed in
-    let piece = fed-at _ _ _ _ _ _ inv.command c.in_default-feed.ensures.fed in
+    let none : c.in-Ok-None.field-0 ≡ None = c.in-Ok-None.field-0-is in
+    let piece = fed-at _ _ _ _ _ _ _ _ inv.command none c.in-Ok-None.ensures.fed in
     record {
       within = grind (arith, common_steps);
       command = c.feed.ensures.command ∙ inv.command;
       reads_same = c.feed.ensures.read_faults ∙ (c.in-Ok.ensures.sound ∙ inv.reads_same);
       reads_later = omega (arith, inv.reads_later, c.read.ensures.cause.later, c.feed.ensures.read_faults);
-      writes_same = c.in_default-feed.ensures.sound ∙ (c.read.ensures.write_faults ∙ inv.writes_same);
+      writes_same = c.in-Ok-None.ensures.sound ∙ (c.read.ensures.write_faults ∙ inv.writes_same);
       fed = so_far-fed _ _ _ _ _ _ _ _ _ _ fed.0 _ _ _ c.in-Ok.count piece fed.1
           (piece-size _ _ c.in-Ok.count c.in-Ok.ensures.bound) fed.2 fed.3 c.in-Ok.ensures.contents
           (piece-is _ _ c.in-Ok.count c.in-Ok.ensures.bound);

@@ -1,6 +1,7 @@
 use Rattle.std.proofs.Common.{arith}
 use Rattle.mb_top.proofs.ChainLemmas.{links-count}
 use Rattle.mb_top.proofs.JobLemmas.{chain-stands, job-cut}
+use Rattle.mb_top.proofs.TapeLemmas.{job-tape_cut}
 use Rattle.mb_top.proofs.job.Job.is_cut.Goals as goal
 
 pub partial-requires : goal.partial-requires
@@ -10,3 +11,7 @@ partial-requires c =
 
 pub returns-in-Convert : goal.returns-in-Convert
 returns-in-Convert c = λ bytes h. job-cut _ _ _ _ _ bytes c.in-Convert.is h c.partial.ensures
+
+pub returns-in-Migrate : goal.returns-in-Migrate
+returns-in-Migrate c = λ bytes h. job-tape_cut _ c.in-Migrate.tape _ bytes c.in-Migrate.is h
+    c.partial-in-Migrate.ensures.state

@@ -1,4 +1,5 @@
 use Rattle.mb_top.proofs.JobLemmas.{job-told, job-told_part}
+use Rattle.mb_top.proofs.TapeLemmas.{job-tape_told}
 use Rattle.mb_top.proofs.job.Job.tell.Goals as goal
 
 pub returns-then-tally-clause-told : goal.returns-then-tally-clause-told
@@ -10,3 +11,7 @@ pub returns-then-tally-clause-halted : goal.returns-then-tally-clause-halted
 returns-then-tally-clause-halted g c =
     job-told_part _ _ _ _ _ _ _ c.in-Convert.is c.if-tally.true c.requires.done c.as_slice.ensures.value
     c.tell_tally.ensures.halted
+
+pub returns-in-Migrate-clause-told : goal.returns-in-Migrate-clause-told
+returns-in-Migrate-clause-told g c =
+    job-tape_told _ c.in-Migrate.field-0 _ c.in-Migrate.is (g.met.K.Out.nothing c.args.out.now)

@@ -1,0 +1,7 @@
+//! A tape written again in the second form, piece by piece as it is read.
+#![tactic(auto)]
+
+mod held;
+mod migrate;
+
+pub use migrate::migrate_piece;

@@ -1,0 +1,96 @@
+-- A tape that is written in the second form, as a job says it.
+use Rattle.std.proofs.Common.{◌≡◌, ℕ, Bool, not, List, [], ◌++◌, refl, sym, ◌∙◌, ap, subst, append-nil}
+use Rattle.std.proofs.lemmas.Result.{on_err_weaker}
+use Rattle.std.specs.Prelude.{Result, Ok, Err, IfOk, OnOk, OnErr, Option, None, false}
+use Rattle.mb_message.specs.Front.{IsPart}
+use Rattle.mb_outside.specs.TakingLaws.{part-behind}
+use Rattle.mb_frames.specs.Migrated.{migrated_from, tape2}
+use Rattle.mb_frames.specs.Tapes.{fault_in}
+use Rattle.mb_frames.specs.Tapes as tapes
+use Rattle.mb_frames.specs.TapeSteps.{TapeState, after, ending_at, fresh}
+use Rattle.mb_frames.specs.declared.tape.TapeFault.{TapeFault}
+use Rattle.mb_frames.proofs.TapeLiteral.{tape-reads}
+use Rattle.mb_frames.proofs.MigratingLemmas.{after-split, fault-all, tape2-then}
+use Rattle.mb_words.specs.Command.{Migrating}
+use Rattle.mb_top.specs.Output.{is_whole}
+use Rattle.mb_top.specs.Job.{job_command, JobStands, JobDone, JobFed, JobHalted, JobEnded, JobTold}
+use Rattle.mb_top.specs.declared.job.Job.{Job}
+use Rattle.mb_top.specs.declared.job.Job.TheVariants as job
+
+abbrev Stands : TapeState → List ℕ → Type 0
+Stands tape bytes = JobStands (job.Migrate tape) bytes
+
+-- where the tape stands behind a piece
+behind : (tape : TapeState) (bytes piece : List ℕ) → tape ≡ after fresh bytes →
+    after tape piece ≡ after fresh (bytes ++ piece)
+behind tape bytes piece e = ap (λ (t : TapeState). after t piece) e ∙ sym (after-split fresh bytes piece)
+
+fed-by : (tape now : TapeState) (piece : List ℕ) (fault : Option TapeFault) (took : List ℕ → Type 0) →
+    now ≡ after tape piece → fault ≡ fault_in (ending_at (after tape piece)) → took (migrated_from tape piece) →
+    JobFed Migrating (Stands tape) (Stands now) piece fault took
+fed-by tape now piece fault took state told given =
+    record {
+      given = migrated_from tape piece;
+      took_it = given;
+      stands = λ none bytes h. (state ∙ behind tape bytes piece h.0, fault_at bytes h.0 ∙ none);
+      beyond = λ bytes h.
+          tape2-then bytes piece ∙ ap (λ (t : TapeState). tape2 bytes ++ migrated_from t piece) (sym h.0);
+      fault_is = λ bytes h. fault_at bytes h.0;
+    }
+  where
+    fault_at : (bytes : List ℕ) → tape ≡ after fresh bytes → tapes.tape_fault (bytes ++ piece) ≡ fault
+    fault_at bytes e =
+        fault-all (bytes ++ piece)
+        ∙ (ap (λ (t : TapeState). fault_in (ending_at t)) (sym (behind tape bytes piece e)) ∙ sym told)
+
+pub job-tape_fed : {E : Type 0} (r : Result (Option TapeFault) E) (j : Job) (tape now : TapeState) (piece : List ℕ)
+    (took : List ℕ → Type 0) → j ≡ job.Migrate tape → OnOk r (now ≡ after tape piece) →
+    IfOk r (λ fault. fault ≡ fault_in (ending_at (after tape piece))) → OnOk r (took (migrated_from tape piece)) →
+    IfOk r (λ fault. JobFed (job_command j) (JobStands j) (JobStands (job.Migrate now)) piece fault took)
+job-tape_fed (Ok fault) j tape now piece took e state told given =
+    subst (λ (k : Job). JobFed (job_command k) (JobStands k) (Stands now) piece fault took) (sym e)
+    (fed-by tape now piece fault took state told given)
+job-tape_fed (Err x) j tape now piece took e state told given = tt
+
+pub job-tape_halted : {T E : Type 0} (r : Result T E) (j : Job) (tape : TapeState) (piece : List ℕ)
+    (took : List ℕ → Type 0) → j ≡ job.Migrate tape →
+    OnErr r ((front : List ℕ) × IsPart front (migrated_from tape piece) × took front) →
+    OnErr r (JobHalted (job_command j) (JobStands j) piece took)
+job-tape_halted r j tape piece took e f =
+    subst (λ (k : Job). OnErr r (JobHalted (job_command k) (JobStands k) piece took)) (sym e)
+    (on_err_weaker r (λ front. record {
+      given = front.0;
+      took_it = front.2;
+      part = λ bytes h.
+          subst (IsPart (tape2 bytes ++ front.0))
+          (sym (tape2-then bytes piece
+          ∙ ap (λ (t : TapeState). tape2 bytes ++ migrated_from t piece) (sym h.0)))
+          (part-behind (tape2 bytes) front.0 (migrated_from tape piece) front.1);
+    }) f)
+
+pub job-tape_ended : (j : Job) (tape : TapeState) (took : List ℕ → Type 0) → j ≡ job.Migrate tape → took [] →
+    JobEnded (job_command j) (JobStands j) (JobDone j) false took
+job-tape_ended j tape took e none =
+    subst (λ (k : Job). JobEnded (job_command k) (JobStands k) (JobDone k) false took) (sym e)
+    (record {
+      given = [];
+      took_it = none;
+      stands = λ bytes h. tt;
+      beyond = λ bytes h. sym (append-nil (tape2 bytes));
+      notes = λ bytes h. tt;
+    })
+
+pub job-tape_cut : (j : Job) (tape : TapeState) (cut : Bool) (bytes : List ℕ) → j ≡ job.Migrate tape →
+    JobStands j bytes → cut ≡ not (tapes.is_whole (ending_at tape)) → cut ≡ not (is_whole (job_command j) bytes)
+job-tape_cut j tape cut bytes e h told =
+    let stands : Stands tape bytes = subst (λ (k : Job). JobStands k bytes) e h in
+    told
+    ∙ (ap (λ (t : TapeState). not (tapes.is_whole (ending_at t))) stands.0
+    ∙ (ap (λ (x : tapes.TapeEnd). not (tapes.is_whole x)) (tape-reads bytes).ending
+    ∙ ap (λ (k : Job). not (is_whole (job_command k) bytes)) (sym e)))
+
+pub job-tape_told : (j : Job) (tape : TapeState) (took : List ℕ → Type 0) → j ≡ job.Migrate tape → took [] →
+    JobTold (job_command j) (JobDone j) took
+job-tape_told j tape took e none =
+    subst (λ (k : Job). JobTold (job_command k) (JobDone k) took) (sym e)
+    (record { given = []; took_it = none; tally = λ bytes h. refl })
