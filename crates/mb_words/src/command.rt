@@ -16,4 +16,6 @@ pub enum Command {
     Trace(Spec),
     /// Print the notes of a recording.
     Check(Spec),
+    /// Check the program on so many units that it makes, the generator's first state given.
+    Selftest { start: u32, count: u32 },
 }
