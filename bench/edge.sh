@@ -42,7 +42,12 @@ refuse convert din din din din din din din din din din din
 refuse convert tally
 refuse convert tally din
 refuse convert din tally din
-refuse selftest 0 1
+refuse selftest
+refuse selftest 1
+refuse selftest 01 5
+refuse selftest 1 2 3
+refuse selftest 2147483648 1
+refuse selftest 1 1000001
 refuse run r.txt
 refuse convert usb:16 din
 refuse check
@@ -75,7 +80,7 @@ expect "a folder as standard input: standard output" "" "$(hex <"$room/out")"
 expect "no standard input: status" 3 $?
 
 # Standard output that takes nothing: status 4.
-for words in "convert din usb:0" "convert din din" "trace din" "check usb:0"; do
+for words in "convert din usb:0" "convert din din" "trace din" "check usb:0" "selftest 0 1"; do
   printf '\x00\x90\x3c\x64' | "$program" $words >/dev/full 2>"$room/err"
   expect "$words to a full device: status" 4 $?
   [ -s "$room/err" ] || expect "$words to a full device: standard error" "a line" ""

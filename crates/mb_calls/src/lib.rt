@@ -21,6 +21,8 @@ mod frames;
 #[cfg(test)]
 mod lines;
 #[cfg(test)]
+mod made;
+#[cfg(test)]
 mod marks;
 #[cfg(test)]
 mod merge;

@@ -10,7 +10,7 @@ use Rattle.mb_outside.specs.ContentsLaws.{after_write-none, after_write-twice, a
 use Rattle.mb_message.specs.Front.{IsFront}
 use Rattle.mb_carrier.specs.Carrier.{whole}
 use Rattle.mb_carrier.specs.declared.spec.Spec.{Spec}
-use Rattle.mb_words.specs.Command.{Command, Converting, Listing, Migrating, Means}
+use Rattle.mb_words.specs.Command.{Command, Converting, Listing, Migrating, Means, Selftesting}
 use Rattle.mb_words.proofs.CommandLemmas.{one_command}
 use Rattle.mb_top.specs.Output.{ReadsOne, reads_from, writes_to, may_want_memory, answers_notes, is_whole}
 use Rattle.mb_top.specs.Output.{fault_of, reads_tape}
@@ -18,7 +18,7 @@ use Rattle.std.specs.Prelude.{Some}
 use Rattle.mb_frames.specs.declared.tape.TapeFault.{TapeFault}
 use Rattle.mb_top.specs.Answer.{Answered, DidAll, Moved, EndsAs, Says, faults_told, taken_off, added_to, code_of}
 use Rattle.mb_top.specs.Answer.{text_of, read_all}
-use Rattle.mb_top.specs.Ran.{Ran, RanWords, MayAnswer, MayAnswerWords, Faulted, written_of}
+use Rattle.mb_top.specs.Ran.{Carried, RanWords, MayAnswer, MayAnswerWords, Faulted, written_of}
 use Rattle.mb_top.specs.declared.status.Status.{Status}
 use Rattle.mb_top.specs.declared.status.Status.TheVariants.{Done, Noted, Usage, Cut, NoMemory, Stopped}
 use Rattle.mb_top.specs.declared.status.Stop.TheVariants.{ReadFault, Refused, TooLong, BadTape}
@@ -217,15 +217,11 @@ moved input output words before f =
 
 -- the handles of a command
 
-only_reads : (c : Command) (handle : ℕ) → reads_from c handle ≡ false → (handle == 0) ≡ false
-only_reads (Converting tally first between last) handle e = e
-only_reads (Listing traced s) handle e = e
-only_reads Migrating handle e = e
-
 only_writes : (c : Command) (handle : ℕ) → writes_to c handle ≡ false → ((handle == 1) || (handle == 2)) ≡ false
 only_writes (Converting tally first between last) handle e = e
 only_writes (Listing traced s) handle e = e
 only_writes Migrating handle e = e
+only_writes (Selftesting start count) handle e = e
 
 unread : (input : List ℕ) (handle : ℕ) → (handle == 0) ≡ false → seen_at input handle ≡ []
 unread input handle e = ap (λ (t : Bool). if t then input else []) e
@@ -236,6 +232,13 @@ none-read input handle e = ap (λ (xs : List ℕ). seen_at xs handle) e ∙ by_t
     by_test : (t : Bool) → ◌≡◌ {A = List ℕ} (if t then [] else []) []
     by_test true = refl
     by_test false = refl
+
+-- a command that reads nothing read none
+unread-by : (c : Command) (input : List ℕ) (handle : ℕ) → (reads_from c 0 ≡ false → input ≡ []) →
+    reads_from c handle ≡ false → seen_at input handle ≡ []
+unread-by (Converting tally first between last) input handle none e = unread input handle e
+unread-by (Listing traced s) input handle none e = unread input handle e
+unread-by (Selftesting start count) input handle none e = none-read input handle (none refl)
 
 unwritten : (output words : List ℕ) (handle : ℕ) → ((handle == 1) || (handle == 2)) ≡ false →
     written_at output words handle ≡ []
@@ -294,7 +297,7 @@ answered words limit before mid after reads reads_mid faults faults_mid faults_n
           record {
             keeps = record {
               unread = λ handle f. taken-at r.input r.output (r.tally ++ text) before handle r.front
-                  ∙ unread r.input handle (only_reads c handle f);
+                  ∙ unread-by c r.input handle (r.unread c m) f;
               unwritten = λ handle f. added-at r.input r.output (r.tally ++ text) before handle
                   ∙ unwritten r.output (r.tally ++ text) handle (only_writes c handle f);
             };
@@ -357,8 +360,9 @@ answered words limit before mid after reads reads_mid faults faults_mid faults_n
 -- a command that was carried out is what its words mean
 
 pub ran-words : (c : Command) (words : List (List ℕ)) (limit : ℕ) (before after : Contents) (status : Status) →
-    Means words c → MayAnswer c status → Ran c limit before after status → RanWords words limit before after status
-ran-words c words limit before after status m may r =
+    Means words c → MayAnswer c status → Carried c limit before after status → RanWords words limit before after status
+ran-words c words limit before after status m may carried =
+    let r = carried.ran in
     record {
       input = r.input;
       output = r.output;
@@ -366,6 +370,7 @@ ran-words c words limit before after status m may r =
       contents = r.contents;
       front = r.front;
       nothing = λ e. absurd (subst (MayAnswer c) e may);
+      unread = λ d n e. carried.unread (ap (λ (x : Command). reads_from x 0) (one_command words c d m n) ∙ e);
       within = r.within;
       ends = λ d n. subst (λ (x : Command). EndsAs x limit (before.left 0) r.input r.output r.tally status)
           (one_command words c d m n) r.ends;
@@ -382,6 +387,7 @@ ran-usage words limit before none =
           ∙ (after_write-none 1 (after_read 0 0 before) ∙ after_read-none 0 before));
       front = (before.left 0, refl);
       nothing = λ e. (refl, refl, refl);
+      unread = λ c m e. refl;
       within = omega arith;
       ends = λ c m. absurd (none c m);
     }
@@ -418,12 +424,20 @@ is_whole-of : (c : Command) (s : Spec) (input : List ℕ) → ReadsOne c s → i
 is_whole-of (Converting tally first between last) s input e = ap (λ (t : Spec). whole t input) (sym e)
 is_whole-of (Listing traced t) s input e = ap (λ (u : Spec). whole u input) (sym e)
 is_whole-of Migrating s input e = absurd e
+is_whole-of (Selftesting start count) s input e = absurd e
 
 -- a recording that is no tape has no fault
 pub no_fault : (c : Command) (s : Spec) (input : List ℕ) (f : TapeFault) → ReadsOne c s → fault_of c input ≡ Some f → ⊥
 no_fault (Converting tally first between last) s input f reads e = cc
 no_fault (Listing traced t) s input f reads e = cc
 no_fault Migrating s input f reads e = reads
+no_fault (Selftesting start count) s input f reads e = reads
+
+pub one-reads : (c : Command) (s : Spec) → ReadsOne c s → reads_from c 0 ≡ true
+one-reads (Converting tally first between last) s e = refl
+one-reads (Listing traced t) s e = refl
+one-reads Migrating s e = absurd e
+one-reads (Selftesting start count) s e = absurd e
 
 -- at the end, it is 5 exactly where the input stops inside a packet
 pub cut-at_end : (words : List (List ℕ)) (limit : ℕ) (before after : Contents) (faults faults_now answer : ℕ)
@@ -444,7 +458,7 @@ cut-at_end words limit before after faults faults_now answer c s reads all m a =
     went = went_through words limit before after faults faults_now answer c all m a
 
     same : is_whole c (taken_off 0 before after) ≡ whole s (before.left 0)
-    same = ap (is_whole c) (sym went.all) ∙ is_whole-of c s (before.left 0) reads
+    same = ap (is_whole c) (sym (went.all (one-reads c s reads))) ∙ is_whole-of c s (before.left 0) reads
 
     cut : whole s (before.left 0) ≡ false → is_whole c (taken_off 0 before after) ≡ false
     cut h = same ∙ h
@@ -484,7 +498,7 @@ completes words limit before after faults faults_now answer tally first between 
     (λ t. EndsAs (Converting tally first between last) limit (before.left 0) (taken_off 0 before after)
     (added_to 1 before after) a.tally t → code_of t ≡ 0)
     (λ ends. refl) (λ ends. absurd (ends.2))
-    (λ ends. absurd (wrong (sym is ∙ (ap (whole first) (ends.0).all ∙ ends.1))))
+    (λ ends. absurd (wrong (sym is ∙ (ap (whole first) ((ends.0).all refl) ∙ ends.1))))
     a.status (sym (ap read_all a.number) ∙ all) ((a.did (Converting tally first between last) m).ends)
 
 -- statuses that only some commands have
@@ -495,11 +509,13 @@ means-noted words (Converting tally first between last) m e = absurd (wrong (sym
 means-noted words (Listing true s) m e = absurd (wrong (sym e))
 means-noted words (Listing false s) m e = (s, m)
 means-noted words Migrating m e = absurd (wrong (sym e))
+means-noted words (Selftesting start count) m e = absurd (wrong (sym e))
 
 means-tape : (words : List (List ℕ)) (c : Command) → Means words c → reads_tape c ≡ true → Means words Migrating
 means-tape words (Converting tally first between last) m e = absurd (wrong (sym e))
 means-tape words (Listing traced s) m e = absurd (wrong (sym e))
 means-tape words Migrating m e = m
+means-tape words (Selftesting start count) m e = absurd (wrong (sym e))
 
 pub is_canonical : (first : Spec) (between : List Spec) (last : Spec) (read written : List ℕ) → last ≡ Din →
     written ≡ through first between last read → through Din [] Din written ≡ written
@@ -582,3 +598,31 @@ tape_alone words status answer number may seven =
     let same = bad_tape status (sym number ∙ seven) in
     let m = may.other (other_status status Usage (λ e. omega (arith, number, seven, e))) in
     means-tape words m.0 m.1 (subst (MayAnswer m.0) same.1 m.2)
+
+-- a check of the program
+
+pub selftest-ends : (words : List (List ℕ)) (start count : ℕ) (status : Status) (answer : ℕ) →
+    answer ≡ code_of status → MayAnswerWords words status → Means words (Selftesting start count) →
+    (answer ≡ 0) ⊎ (answer ≡ 4)
+selftest-ends words start count status answer number may means = by_status status number may
+  where
+    its : (s : Status) → MayAnswerWords words s → (s ≡ Usage → ⊥) → MayAnswer (Selftesting start count) s
+    its s may other =
+        let m = may.other other in
+        subst (λ (c : Command). MayAnswer c s) (one_command words m.0 (Selftesting start count) m.1 means) m.2
+
+    by_status : (s : Status) → answer ≡ code_of s → MayAnswerWords words s → (answer ≡ 0) ⊎ (answer ≡ 4)
+    by_status Done e may = inl e
+    by_status (Stopped Refused) e may = inr e
+    by_status Usage e may = absurd (may.usage refl (Selftesting start count) means)
+    by_status Noted e may =
+        absurd (wrong (sym (its Noted may (other_status Noted Usage (λ e. omega (arith, e))))))
+    by_status Cut e may = absurd (wrong (sym (its Cut may (other_status Cut Usage (λ e. omega (arith, e))))))
+    by_status NoMemory e may =
+        absurd (wrong (sym (its NoMemory may (other_status NoMemory Usage (λ e. omega (arith, e))))))
+    by_status (Stopped ReadFault) e may =
+        absurd (wrong (sym (its (Stopped ReadFault) may
+        (other_status (Stopped ReadFault) Usage (λ e. omega (arith, e))))))
+    by_status (Stopped TooLong) e may =
+        absurd (wrong (sym (its (Stopped TooLong) may
+        (other_status (Stopped TooLong) Usage (λ e. omega (arith, e))))))

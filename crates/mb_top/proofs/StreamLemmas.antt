@@ -1,5 +1,5 @@
 -- A command on its way, over a desk that tells its contents.
-use Rattle.std.proofs.Common.{◌≡◌, Bool, IsTrue, ℕ, ◌+◌, ◌-◌, ◌<◌, ◌≤◌, true, false, not, List, ◌++◌, [], map, length}
+use Rattle.std.proofs.Common.{◌≡◌, Bool, IsTrue, ℕ, ◌+◌, ◌-◌, ◌<◌, ◌≤◌, true, false, not, List, ◌++◌, [], length}
 use Rattle.std.proofs.Common.{take, drop, refl, inl, inr, sym, ◌∙◌, ap, subst, append_assoc, arith, length-append}
 use Rattle.std.proofs.lemmas.List.{append-nil, take-append-drop, drop_at, length-take-le, take-append-le}
 use Rattle.mb_outside.specs.Contents.{Contents, Gives, after_read, after_write}
@@ -14,11 +14,11 @@ use Rattle.std.specs.Prelude.{Option, Some, None}
 use Rattle.mb_frames.specs.declared.tape.TapeFault.{TapeFault}
 use Rattle.mb_top.proofs.ChainLemmas.{chain-none}
 use Rattle.mb_top.proofs.JobLemmas.{command-stays, command-closes}
-use Rattle.mb_words.specs.Command.{Command, Converting, Listing, Migrating}
+use Rattle.mb_words.specs.Command.{Command, Converting, Listing, Migrating, Selftesting}
 use Rattle.mb_top.specs.Output.{fault_of, output_of, is_whole, live_output_of, tally_of}
 use Rattle.mb_top.specs.Job.{JobFed, JobHalted, JobEnded, JobEndHalted, JobTold, JobTellHalted, Remarked}
 use Rattle.mb_top.specs.Answer.{EndsAs, DidAll, all_but_last, PIECE}
-use Rattle.mb_top.specs.Ran.{Ran, RanEnd, MayAnswer, at_end, written_of}
+use Rattle.mb_top.specs.Ran.{Ran, RanEnd, at_end, written_of}
 use Rattle.mb_top.specs.declared.status.Status.{Status}
 use Rattle.mb_top.specs.declared.status.Status.TheVariants.{Stopped}
 use Rattle.mb_top.specs.declared.status.Stop.TheVariants.{ReadFault, Refused, TooLong, BadTape}
@@ -41,11 +41,13 @@ live-none : (c : Command) → live_output_of c [] ≡ []
 live-none (Converting tally first between last) = chain-none first between last
 live-none (Listing traced s) = ap (lines_known traced s) (grows s).nothing_known
 live-none Migrating = refl
+live-none (Selftesting start count) = refl
 
 sound-none : (c : Command) → fault_of c [] ≡ None
 sound-none (Converting tally first between last) = refl
 sound-none (Listing traced s) = refl
 sound-none Migrating = refl
+sound-none (Selftesting start count) = refl
 
 pub so_far-none : (c : Command) (before : Contents) → SoFar c before before []
 so_far-none c before =
@@ -235,8 +237,8 @@ end-ran c d before mid now bytes was done cut noted took tells status same_comma
       ends = λ limit below sound.
           let w : DidAll c limit bytes bytes (live_output_of c bytes ++ e.given) t.given =
           record {
-            all = refl;
-            below = below;
+            all = λ reads. refl;
+            below = λ reads. below;
             sound = sound;
             output_is = sym (e.beyond bytes stands);
             tally_is = t.tally bytes (e.stands bytes stands) ∙ ap (λ (x : Command). tally_of x bytes) same_command;
@@ -245,21 +247,6 @@ end-ran c d before mid now bytes was done cut noted took tells status same_comma
           (ends-at c limit bytes bytes (live_output_of c bytes ++ e.given) t.given cut noted w is_cut
           (e.notes bytes stands));
     }
-
--- notes are answered of a command that answers them
-pub may-end : (c : Command) (was done : List ℕ → Type 0) (cut noted : Bool) (took : List ℕ → Type 0) (status : Status)
-    (bytes : List ℕ) →
-    status ≡ at_end cut noted → was bytes → JobEnded c was done noted took → MayAnswer c status
-may-end c was done cut noted took status bytes same stands e = subst (MayAnswer c) (sym same)
-    (by_tests c cut noted (e.notes bytes stands))
-  where
-    by_tests : (c : Command) (cut noted : Bool) → Remarked noted c bytes → MayAnswer c (at_end cut noted)
-    by_tests c true noted h = tt
-    by_tests c false false h = tt
-    by_tests (Converting tally first between last) false true h = absurd h
-    by_tests (Listing true s) false true h = absurd h
-    by_tests (Listing false s) false true h = refl
-    by_tests Migrating false true h = absurd h
 
 pub cut-at : (d c : Command) (cut : Bool) (bytes : List ℕ) → d ≡ c → cut ≡ not (is_whole d bytes) →
     cut ≡ not (is_whole c bytes)

@@ -10,7 +10,7 @@
 use Rattle.std.specs.Prelude.{◌≡◌, ℕ, Bool, true, List, IsTrue}
 use Rattle.mb_outside.specs.Contents.{Contents}
 use Rattle.mb_carrier.specs.declared.spec.Spec.{Spec}
-use Rattle.mb_words.specs.Command.{Command, Converting, Listing, Migrating, Means}
+use Rattle.mb_words.specs.Command.{Command, Converting, Listing, Migrating, Means, Selftesting}
 use Rattle.mb_outside.specs.Cause.{Rose}
 use Rattle.mb_message.specs.Front.{IsFront}
 use Rattle.mb_top.specs.Output.{ReadsOne, tally_of}
@@ -46,6 +46,10 @@ abbrev pub OfReader : (tells : Bool) (words : List (List ℕ)) (before : Content
     (claim : (c : Command) (s : Spec) (left : List ℕ) → Type 0) → Type 0
 OfReader tells words before claim = (c : Command) (s : Spec) → IsTrue tells → Means words c → ReadsOne c s →
     claim c s (before.left 0)
+
+abbrev pub OfSelftest : (tells : Bool) (words : List (List ℕ)) (claim : (start count : ℕ) → Type 0) → Type 0
+OfSelftest tells words claim = (start count : ℕ) → IsTrue tells → Means words (Selftesting start count) →
+    claim start count
 
 abbrev pub IsTallied : (tells : Bool) (words : List (List ℕ)) (answer : ℕ) (before after : Contents) → Type 0
 IsTallied tells words answer before after =

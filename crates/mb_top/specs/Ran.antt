@@ -1,6 +1,7 @@
 -- Inside the top call: what a command did before its answer was said.
 --
 --   Ran c ..               a command read these bytes and wrote those, and changed nothing else
+--   Carried c ..           the same, and a command that reads nothing read none
 --   RanEnd c bytes ..      the same at the end of an input of which what is known was written before
 --   RanWords words ..      the same for words, which may mean no command
 --   Faulted ..             a fault of reading or writing came exactly where the status tells of one
@@ -10,11 +11,11 @@ use Rattle.mb_outside.specs.Cause.{Rose}
 use Rattle.mb_outside.specs.Contents.{Contents, after_read, after_write}
 use Rattle.mb_message.specs.Front.{IsFront}
 use Rattle.mb_words.specs.Command.{Command, Means}
-use Rattle.mb_top.specs.Output.{live_output_of, may_want_memory, answers_notes, fault_of, reads_tape}
+use Rattle.mb_top.specs.Output.{live_output_of, may_want_memory, answers_notes, fault_of, reads_tape, reads_from}
 use Rattle.mb_top.specs.Answer.{EndsAs}
 use Rattle.mb_top.specs.declared.status.Status.{Status}
 use Rattle.mb_top.specs.declared.status.Status.TheVariants.{Done, Noted, Usage, Cut, NoMemory, Stopped}
-use Rattle.mb_top.specs.declared.status.Stop.TheVariants.{ReadFault, Refused, BadTape}
+use Rattle.mb_top.specs.declared.status.Stop.TheVariants.{ReadFault, Refused, BadTape, TooLong}
 
 -- standard input was read, standard output written, and a tally to standard error
 abbrev pub written_of : (input output tally : List ℕ) → Contents → Contents
@@ -29,6 +30,10 @@ pub record Ran (c : Command) (limit : ℕ) (before after : Contents) (status : S
   pub within : length input ≤ limit
   pub ends : EndsAs c limit (before.left 0) input output tally status
 
+pub record Carried (c : Command) (limit : ℕ) (before after : Contents) (status : Status) : Type 0 where
+  pub ran : Ran c limit before after status
+  pub unread : reads_from c 0 ≡ false → ran.input ≡ []
+
 pub record RanWords (words : List (List ℕ)) (limit : ℕ) (before after : Contents) (status : Status) : Type 0 where
   pub input : List ℕ
   pub output : List ℕ
@@ -36,6 +41,7 @@ pub record RanWords (words : List (List ℕ)) (limit : ℕ) (before after : Cont
   pub contents : after ≡ written_of input output tally before
   pub front : IsFront input (before.left 0)
   pub nothing : status ≡ Usage → (input ≡ []) × (output ≡ []) × (tally ≡ [])
+  pub unread : (c : Command) → Means words c → reads_from c 0 ≡ false → input ≡ []
   pub within : length input ≤ limit
   pub ends : (c : Command) → Means words c → EndsAs c limit (before.left 0) input output tally status
 
@@ -60,12 +66,15 @@ pub record RanEnd (c : Command) (bytes : List ℕ) (before after : Contents) (st
   pub ends : (limit : ℕ) → length bytes < limit → fault_of c bytes ≡ None →
       EndsAs c limit bytes bytes (live_output_of c bytes ++ output) tally status
 
--- want of memory is answered of commands alone that may want it, notes of `check` alone, a fault of those that read a
--- tape
+-- want of memory is answered of commands alone that may want it, notes of `check` alone, what may be wrong of an input
+-- of those that read one, and a fault of a tape of those that read a tape
 abbrev pub MayAnswer : Command → Status → Type 0
 MayAnswer c Usage = ⊥
 MayAnswer c NoMemory = may_want_memory c ≡ true
 MayAnswer c Noted = answers_notes c ≡ true
+MayAnswer c Cut = reads_from c 0 ≡ true
+MayAnswer c (Stopped ReadFault) = reads_from c 0 ≡ true
+MayAnswer c (Stopped TooLong) = reads_from c 0 ≡ true
 MayAnswer c (Stopped (BadTape f)) = reads_tape c ≡ true
 MayAnswer c _ = Unit {0}
 

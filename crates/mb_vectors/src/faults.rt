@@ -222,7 +222,7 @@ const NO_COMMANDS: &[&[&str]] = &[
     &["convert", "din", "tally", "din"],
     &["tally", "convert", "din", "din"],
     &["trace", "din", "din"],
-    &["selftest", "0", "1"],
+    &["selftest", "0", "1000001"],
     &["run", "r.txt"],
     &["check", "usb:16"],
 ];

@@ -22,6 +22,8 @@ mod ports;
 #[cfg(test)]
 mod row;
 #[cfg(test)]
+mod selftest;
+#[cfg(test)]
 mod so_far;
 #[cfg(test)]
 mod tapes;

@@ -23,6 +23,13 @@ fn command_of(rt: &impl Abort, alloc: Global, words: &[&str]) -> ArrayVec<u8, 64
         Ok(Command::Check(Spec::Fire(_))) => b"check of FireWire",
         Ok(Command::Check(Spec::Ble(20))) => b"check of BLE-MIDI",
         Ok(Command::Migrate) => b"migrate",
+        Ok(
+            Command::Selftest {
+                start: 2147483647,
+                count: 1000000,
+            },
+        ) => b"the longest check",
+        Ok(Command::Selftest { .. }) => b"a check of the program",
         Ok(_) => b"another",
         Err(_) => b"none",
     });
@@ -44,6 +51,14 @@ const WORDS: &[(&[&str], &[u8])] = &[
     (&["convert", "tally"], b"none"),
     (&["migrate"], b"migrate"),
     (&["migrate", "din"], b"none"),
+    (&["selftest", "0", "0"], b"a check of the program"),
+    (&["selftest", "2147483647", "1000000"], b"the longest check"),
+    (&["selftest", "2147483648", "1"], b"none"),
+    (&["selftest", "1", "1000001"], b"none"),
+    (&["selftest", "01", "5"], b"none"),
+    (&["selftest", "1", "-5"], b"none"),
+    (&["selftest", "1"], b"none"),
+    (&["selftest", "1", "2", "3"], b"none"),
 ];
 
 #[test]

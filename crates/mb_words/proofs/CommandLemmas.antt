@@ -2,12 +2,13 @@
 use Rattle.std.proofs.Common.{◌≡◌, ℕ, suc, Bool, true, false, if◌then◌else◌, List, [], ◌∷◌, ◌++◌, length, refl, sym}
 use Rattle.std.proofs.Common.{◌∙◌, ap, subst, arith, codes}
 use Rattle.std.specs.Str.{bytes_eq}
+use Rattle.std.proofs.lemmas.Fmt.{decimal_injective}
 use Rattle.mb_carrier.specs.Word.{IsWordOf, IsSpec, AreSpecs}
 use Rattle.mb_carrier.specs.declared.spec.Spec.{Spec}
 use Rattle.mb_carrier.specs.declared.spec.Spec.TheVariants.{Din, Usb, Fire, Ble}
 use Rattle.mb_carrier.proofs.WordLemmas.{one_spec, word-is_spec, first_letter, size-letter}
 use Rattle.mb_words.specs.Command.{Command, Converting, Listing, Migrating, Means, AreWordsOf, name_of, asks_tally}
-use Rattle.mb_words.specs.Command.{specs_of}
+use Rattle.mb_words.specs.Command.{specs_of, Selftesting, options_of}
 use Rattle.mb_words.specs.Meaning.{front_of, end_of, converting}
 
 pub heads : (x y : List ℕ) (xs ys : List (List ℕ)) → x ∷ xs ≡ y ∷ ys → x ≡ y
@@ -111,22 +112,86 @@ converting_again tally first (s ∷ between) last =
     (front_again s between last)
     ∙ ap (λ (t : Spec). Converting tally first (s ∷ between) t) (end_again s between last)
 
-again : (c : Command) → rebuilt (name_of c) (asks_tally c) (specs_of c) ≡ c
-again (Converting tally first between last) = converting_again tally first between last
-again (Listing true s) = refl
-again (Listing false s) = refl
-again Migrating = refl
+-- commands whose words are a name, perhaps an option, and specs
+abbrev HasSpecs : Command → Type 0
+HasSpecs (Converting tally first between last) = Unit {0}
+HasSpecs (Listing traced s) = Unit {0}
+HasSpecs Migrating = Unit {0}
+HasSpecs (Selftesting start count) = ⊥
 
-pub one_command : (words : List (List ℕ)) (c d : Command) → Means words c → Means words d → c ≡ d
-one_command words c d m n =
+again : (c : Command) → HasSpecs c → rebuilt (name_of c) (asks_tally c) (specs_of c) ≡ c
+again (Converting tally first between last) h = converting_again tally first between last
+again (Listing true s) h = refl
+again (Listing false s) h = refl
+again Migrating h = refl
+again (Selftesting start count) h = absurd h
+
+options_are : (c : Command) → HasSpecs c → options_of c ≡ options (asks_tally c)
+options_are (Converting tally first between last) h = refl
+options_are (Listing traced s) h = refl
+options_are Migrating h = refl
+options_are (Selftesting start count) h = absurd h
+
+one_of_specs : (words : List (List ℕ)) (c d : Command) → HasSpecs c → HasSpecs d → Means words c → Means words d → c ≡ d
+one_of_specs words c d h k m n =
     let same = sym m.words_are ∙ n.words_are in
     let name : name_of c ≡ name_of d = heads _ _ _ _ same in
     let behind = same_behind (asks_tally c) (asks_tally d) m.arguments n.arguments (specs_of c) (specs_of d)
-    (tails _ _ _ _ same) m.are_specs n.are_specs in
-    sym (again c)
+    (ap (λ (ws : List (List ℕ)). ws ++ m.arguments) (sym (options_are c h))
+    ∙ (tails _ _ _ _ same ∙ ap (λ (ws : List (List ℕ)). ws ++ n.arguments) (options_are d k)))
+    m.are_specs n.are_specs in
+    sym (again c h)
     ∙ (ap (λ (x : List ℕ). rebuilt x (asks_tally c) (specs_of c)) name
     ∙ (ap (λ (t : Bool). rebuilt (name_of d) t (specs_of c)) behind.0
-    ∙ (ap (λ (specs : List Spec). rebuilt (name_of d) (asks_tally d) specs) behind.1 ∙ again d)))
+    ∙ (ap (λ (specs : List Spec). rebuilt (name_of d) (asks_tally d) specs) behind.1 ∙ again d k)))
+
+-- a check of the program
+
+pub selftest_letter : (c : Command) → HasSpecs c → name_of c ≡ codes "selftest" → ⊥
+selftest_letter (Converting tally first between last) h e =
+    (let differ : 99 ≡ 115 = ap first_letter e in omega (arith, differ))
+selftest_letter (Listing true s) h e = (let differ : 116 ≡ 115 = ap first_letter e in omega (arith, differ))
+selftest_letter (Listing false s) h e = (let differ : 99 ≡ 115 = ap first_letter e in omega (arith, differ))
+selftest_letter Migrating h e = (let differ : 109 ≡ 115 = ap first_letter e in omega (arith, differ))
+selftest_letter (Selftesting start count) h e = h
+
+no_selftest : (words : List (List ℕ)) (c : Command) (start count : ℕ) → HasSpecs c → Means words c →
+    Means words (Selftesting start count) → ⊥
+no_selftest words c start count h m n = selftest_letter c h (heads _ _ _ _ (sym m.words_are ∙ n.words_are))
+
+same_selftest : (words : List (List ℕ)) (start count other others : ℕ) → Means words (Selftesting start count) →
+    Means words (Selftesting other others) → Selftesting start count ≡ Selftesting other others
+same_selftest words start count other others m n =
+    let behind = tails _ _ _ _ (sym m.words_are ∙ n.words_are) in
+    let starts : start ≡ other = decimal_injective start other (omega (arith, (m.built).0)) (omega (arith, (n.built).0))
+    (heads _ _ _ _ behind) in
+    let counts : count ≡ others =
+    decimal_injective count others (omega (arith, (m.built).1)) (omega (arith, (n.built).1))
+    (heads _ _ _ _ (tails _ _ _ _ behind)) in
+    ap (λ (n : ℕ). Selftesting n count) starts ∙ ap (λ (n : ℕ). Selftesting other n) counts
+
+-- a command has specs, or is a check of the program
+abbrev IsCheck : Command → Type 0
+IsCheck c = (start : ℕ) × (count : ℕ) × (c ≡ Selftesting start count)
+
+form : (c : Command) → HasSpecs c ⊎ IsCheck c
+form (Converting tally first between last) = inl tt
+form (Listing traced s) = inl tt
+form Migrating = inl tt
+form (Selftesting start count) = inr (start, count, refl)
+
+pub one_command : (words : List (List ℕ)) (c d : Command) → Means words c → Means words d → c ≡ d
+one_command words c d m n = by_form (form c) (form d)
+  where
+    by_form : (HasSpecs c ⊎ IsCheck c) → (HasSpecs d ⊎ IsCheck d) → c ≡ d
+    by_form (inl h) (inl k) = one_of_specs words c d h k m n
+    by_form (inl h) (inr k) =
+        absurd (no_selftest words c k.0 k.1 h m (subst (λ (x : Command). Means words x) k.2 n))
+    by_form (inr h) (inl k) =
+        absurd (no_selftest words d h.0 h.1 k n (subst (λ (x : Command). Means words x) h.2 m))
+    by_form (inr h) (inr k) =
+        h.2 ∙ (same_selftest words h.0 h.1 k.0 k.1 (subst (λ (x : Command). Means words x) h.2 m)
+        (subst (λ (x : Command). Means words x) k.2 n) ∙ sym k.2)
 
 -- the specs of a command that was read, by their parts
 pub specs_again : (s : Spec) (specs : List Spec) → s ∷ specs ≡ front_of s specs ++ end_of s specs ∷ []

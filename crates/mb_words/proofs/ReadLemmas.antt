@@ -1,11 +1,12 @@
 -- What is read of words, place by place.
 use Rattle.std.proofs.Common.{◌≡◌, ℕ, zero, suc, ◌+◌, ◌≤◌, Bool, true, false, List, [], ◌∷◌, ◌++◌, length, drop, refl}
-use Rattle.std.proofs.Common.{sym, ◌∙◌, ap, subst, arith, codes, length-append, append_assoc}
+use Rattle.std.proofs.Common.{sym, ◌∙◌, ap, subst, arith, codes, decimal, length-append, append_assoc}
 use Rattle.std.specs.Prelude.{slice_get, slice_index_or, Option, Some, None, IfNone}
 use Rattle.std.proofs.lemmas.List.{length-drop, append-nil}
 use Rattle.mb_carrier.specs.Word.{IsWordOf}
 use Rattle.mb_carrier.specs.declared.spec.Spec.{Spec}
 use Rattle.mb_words.specs.Command.{Command, Converting, Listing, Migrating, Means, AreWordsOf, name_of, listing_word}
+use Rattle.mb_words.specs.Command.{Selftesting}
 use Rattle.mb_words.specs.Meaning.{converting, place_of_specs}
 use Rattle.mb_words.proofs.CommandLemmas.{as_many, no_tally, specs_again, front_length}
 
@@ -75,12 +76,79 @@ letter_at place letters = slice_index_or letters place 0
 
 pub no_name : (words : List (List ℕ)) (w : List ℕ) (c : Command) → slice_get words 0 ≡ Some w →
     (w ≡ codes "convert" → ⊥) → (w ≡ codes "trace" → ⊥) → (w ≡ codes "check" → ⊥) → (w ≡ codes "migrate" → ⊥) →
-    Means words c → ⊥
-no_name words w (Converting tally first between last) e convert trace check migrate m = convert
+    (w ≡ codes "selftest" → ⊥) → Means words c → ⊥
+no_name words w (Converting tally first between last) e convert trace check migrate selftest m = convert
     (first_word words w (Converting tally first between last) m e)
-no_name words w (Listing true s) e convert trace check migrate m = trace (first_word words w (Listing true s) m e)
-no_name words w (Listing false s) e convert trace check migrate m = check (first_word words w (Listing false s) m e)
-no_name words w Migrating e convert trace check migrate m = migrate (first_word words w Migrating m e)
+no_name words w (Listing true s) e convert trace check migrate selftest m =
+    trace (first_word words w (Listing true s) m e)
+no_name words w (Listing false s) e convert trace check migrate selftest m =
+    check (first_word words w (Listing false s) m e)
+no_name words w Migrating e convert trace check migrate selftest m = migrate (first_word words w Migrating m e)
+no_name words w (Selftesting start count) e convert trace check migrate selftest m =
+    selftest (first_word words w (Selftesting start count) m e)
+
+-- a check of the program
+
+pub selftest-means : (words : List (List ℕ)) (v w : List ℕ) (start count : ℕ) → length words ≡ 3 →
+    slice_get words 0 ≡ Some (codes "selftest") → slice_get words 1 ≡ Some v → slice_get words 2 ≡ Some w →
+    v ≡ decimal start → w ≡ decimal count → start ≤ 2147483647 → count ≤ 1000000 →
+    Means words (Selftesting start count)
+selftest-means words v w start count three name first second start_is count_is low few =
+    record {
+      arguments = [];
+      words_are = begins_twice words (codes "selftest") v name first
+          ∙ (ap (λ (xs : List (List ℕ)). codes "selftest" ∷ v ∷ xs)
+          (drop-at words 2 w second
+          ∙ ap (λ (xs : List (List ℕ)). w ∷ xs) (none_left (drop 3 words) (omega (arith, three, length-drop 3 words))))
+          ∙ (ap (λ (x : List ℕ). codes "selftest" ∷ x ∷ w ∷ []) start_is
+          ∙ ap (λ (x : List ℕ). codes "selftest" ∷ decimal start ∷ x ∷ []) count_is));
+      are_specs = tt;
+      built = (omega (arith, low), few);
+    }
+
+pub record IsSelftest (words : List (List ℕ)) : Type 0 where
+  pub three : length words ≡ 3
+  pub start : ℕ
+  pub count : ℕ
+  pub low : start ≤ 2147483647
+  pub few : count ≤ 1000000
+  pub first : (w : List ℕ) → slice_get words 1 ≡ Some w → w ≡ decimal start
+  pub second : (w : List ℕ) → slice_get words 2 ≡ Some w → w ≡ decimal count
+
+none_behind : (words : List (List ℕ)) → AreWordsOf words [] → words ≡ []
+none_behind [] are = refl
+none_behind (w ∷ words) are = elim are [ ]
+
+is_selftest : (words : List (List ℕ)) (start count : ℕ) → Means words (Selftesting start count) → IsSelftest words
+is_selftest words start count m =
+    let all : words ≡ codes "selftest" ∷ decimal start ∷ decimal count ∷ [] =
+    m.words_are ∙ ap (λ (xs : List (List ℕ)). codes "selftest" ∷ decimal start ∷ decimal count ∷ xs)
+    (none_behind m.arguments m.are_specs) in
+    record {
+      three = ap length all;
+      start = start;
+      count = count;
+      low = omega (arith, (m.built).0);
+      few = (m.built).1;
+      first = λ w e. some-same w (decimal start) (sym e ∙ ap (λ (xs : List (List ℕ)). slice_get xs 1) all);
+      second = λ w e. some-same w (decimal count) (sym e ∙ ap (λ (xs : List (List ℕ)). slice_get xs 2) all);
+    }
+
+pub only_selftest : (words : List (List ℕ)) (c : Command) → slice_get words 0 ≡ Some (codes "selftest") →
+    Means words c → IsSelftest words
+only_selftest words (Selftesting start count) e m = is_selftest words start count m
+only_selftest words (Converting tally first between last) e m =
+    (let differ : 115 ≡ 99 = ap (letter_at 0)
+    (first_word words (codes "selftest") (Converting tally first between last) m e) in absurd (omega (arith, differ)))
+only_selftest words Migrating e m =
+    (let differ : 115 ≡ 109 = ap (letter_at 0) (first_word words (codes "selftest") Migrating m e) in absurd
+    (omega (arith, differ)))
+only_selftest words (Listing true s) e m =
+    (let differ : 115 ≡ 116 = ap (letter_at 0) (first_word words (codes "selftest") (Listing true s) m e) in absurd
+    (omega (arith, differ)))
+only_selftest words (Listing false s) e m =
+    (let differ : 115 ≡ 99 = ap (letter_at 0) (first_word words (codes "selftest") (Listing false s) m e) in absurd
+    (omega (arith, differ)))
 
 -- a listing
 
@@ -132,6 +200,12 @@ only_listing words true Migrating e m =
 only_listing words false Migrating e m =
     (let differ : 99 ≡ 109 = ap (letter_at 0) (first_word words (listing_word false) Migrating m e) in absurd
     (omega (arith, differ)))
+only_listing words true (Selftesting start count) e m =
+    (let differ : 116 ≡ 115 = ap (letter_at 0) (first_word words (listing_word true) (Selftesting start count) m e) in
+    absurd (omega (arith, differ)))
+only_listing words false (Selftesting start count) e m =
+    (let differ : 99 ≡ 115 = ap (letter_at 0) (first_word words (listing_word false) (Selftesting start count) m e) in
+    absurd (omega (arith, differ)))
 
 -- a conversion
 
@@ -206,6 +280,9 @@ only_conversion words tally (Listing false s) e asked unasked m =
 only_conversion words tally Migrating e asked unasked m =
     (let differ : 99 ≡ 109 = ap (letter_at 0) (first_word words (codes "convert") Migrating m e) in absurd
     (omega (arith, differ)))
+only_conversion words tally (Selftesting start count) e asked unasked m =
+    (let differ : 99 ≡ 115 = ap (letter_at 0) (first_word words (codes "convert") (Selftesting start count) m e) in
+    absurd (omega (arith, differ)))
 
 -- a migration
 
@@ -227,6 +304,10 @@ only_migration words (Listing true s) e m =
     (omega (arith, differ)))
 only_migration words (Listing false s) e m =
     (let differ : 109 ≡ 99 = ap (letter_at 0) (first_word words (codes "migrate") (Listing false s) m e) in absurd
+    (omega (arith, differ)))
+only_migration words (Selftesting start count) e m =
+    (let differ : 109 ≡ 115 = ap (letter_at 0)
+    (first_word words (codes "migrate") (Selftesting start count) m e) in absurd
     (omega (arith, differ)))
 
 pub none_some : {A : Type 0} (r : Option A) (x : A) → r ≡ None → r ≡ Some x → ⊥

@@ -2,14 +2,15 @@
 --
 --   place_of_specs tally    the place of a conversion's first spec among its words
 --   meaning c               the command of the definitions
---   IsWithin c              its specs are within their carriers' numbers, and a chain's are two to ten
-use Rattle.std.specs.Prelude.{ℕ, ◌≤◌, Bool, if◌then◌else◌, true, false, List, [], ◌∷◌, length}
+--   IsWithin c              its specs are within their carriers' numbers, a chain's are two to ten, and a check's
+--                           numbers within theirs
+use Rattle.std.specs.Prelude.{ℕ, ◌<◌, ◌≤◌, ◌^◌, Bool, if◌then◌else◌, true, false, List, [], ◌∷◌, length}
 use Rattle.mb_carrier.specs.Word.{IsSpec, AreSpecs}
 use Rattle.mb_carrier.specs.declared.spec.Spec.{Spec}
 use Rattle.mb_carrier.specs.declared.spec.Spec.TheVariants as spec
 use Rattle.mb_words.specs.Command as mean
 use Rattle.mb_words.specs.declared.command.Command.{Command}
-use Rattle.mb_words.specs.declared.command.Command.TheVariants.{Convert, Trace, Check, Migrate}
+use Rattle.mb_words.specs.declared.command.Command.TheVariants.{Convert, Trace, Check, Migrate, Selftest}
 
 abbrev pub place_of_specs : (tally : Bool) → ℕ
 place_of_specs tally = if tally then 2 else 1
@@ -37,9 +38,11 @@ meaning (Convert tally specs) = converting tally specs.items
 meaning (Trace s) = mean.Listing true s
 meaning (Check s) = mean.Listing false s
 meaning Migrate = mean.Migrating
+meaning (Selftest start count) = mean.Selftesting start count
 
 abbrev pub IsWithin : Command → Type 0
 IsWithin (Convert tally specs) = AreSpecs specs.items × (2 ≤ length specs.items) × (length specs.items ≤ 10)
 IsWithin (Trace s) = IsSpec s
 IsWithin (Check s) = IsSpec s
 IsWithin Migrate = Unit {0}
+IsWithin (Selftest start count) = (start < 2 ^ 31) × (count ≤ 1000000)

@@ -18,4 +18,6 @@ pub enum Command {
     Check(Spec),
     /// Write a tape once more, in the second form.
     Migrate,
+    /// Check the program on so many units that it makes, the generator's first state given.
+    Selftest { start: u32, count: u32 },
 }

@@ -11,6 +11,13 @@ ghost use Rattle.mb_words.specs.Meaning.{meaning, IsWithin, place_of_specs};
 use crate::{Command, Specs};
 use mb_carrier::Spec;
 use mb_outside::Args;
+use mb_print::read_number;
+
+/// The greatest first state of the generator.
+const MOST_START: u64 = (1 << 31) - 1;
+
+/// The most units that are made.
+const MOST_UNITS: u64 = 1_000_000;
 
 /// The words are no command.
 #[derive(Clone, Copy, Debug, PartialEq, Eq)]
@@ -51,6 +58,8 @@ fn read_command(words: &Args) -> Option<Command>
         read_listing(words, false)
     } else if name == "migrate" {
         read_migration(words)
+    } else if name == "selftest" {
+        read_selftest(words)
     } else {
         None
     }
@@ -140,4 +149,22 @@ fn read_specs(words: &Args, start: usize) -> Option<Specs>
         specs.push(spec);
     }
     Some(specs)
+}
+
+/// `selftest START COUNT`: 0 to 2147483647, and 0 to 1000000.
+fn read_selftest(words: &Args) -> Option<Command>
+    requires { slice_get words.now 0 ≡ Some (codes "selftest") }
+    ensures found { IfSome result (λ c. Means words.now (meaning c)) }
+    ensures within { IfSome result IsWithin }
+    ensures only { IfNone result ((c : words_mean.Command) → Means words.now c → ⊥) }
+{
+    if words.len() != 3 {
+        return None;
+    }
+    let start = read_number(words.word(1).as_bytes(), MOST_START)?;
+    let count = read_number(words.word(2).as_bytes(), MOST_UNITS)?;
+    Some(Command::Selftest {
+        start: start as u32,
+        count: count as u32,
+    })
 }

@@ -1,15 +1,16 @@
 use Rattle.std.proofs.Common.{◌∙◌, ◌++◌, refl, sym, ap, subst, arith}
 use Rattle.mb_carrier.specs.Carrier.{den, notes_of, whole}
 use Rattle.mb_carrier.proofs.ConversionLemmas.{through-means, through-clean, through-whole}
-use Rattle.mb_words.specs.Command.{Converting, Listing, Migrating}
+use Rattle.mb_words.specs.Command.{Converting, Listing, Migrating, Selftesting}
 use Rattle.mb_words.proofs.CommandLemmas.{written_specs}
 use Rattle.mb_top.specs.Output.{HasNotes, HasNoNotes}
 use Rattle.mb_top.specs.Answer.{Says, code_of, read_all}
-use Rattle.mb_top.specs.declared.status.Status.TheVariants.{Done, Noted}
+use Rattle.mb_top.specs.declared.status.Status.TheVariants.{Done, Noted, Stopped}
+use Rattle.mb_top.specs.declared.status.Stop.TheVariants.{Refused}
 use Rattle.mb_top.proofs.AnswerLemmas.{answered, went_through, ends-at_status, cut-at_end, reads_all, completes}
 use Rattle.mb_top.proofs.AnswerLemmas.{is_canonical, usage_only, is_meant, read_faults, write_fault, no_write_fault}
 use Rattle.mb_top.proofs.DistanceLemmas.{keeps_distances}
-use Rattle.mb_top.proofs.AnswerLemmas.{wants_memory, noted_alone, no_fault, tape_alone}
+use Rattle.mb_top.proofs.AnswerLemmas.{wants_memory, noted_alone, no_fault, tape_alone, one-reads, selftest-ends}
 use Rattle.mb_top.proofs.MigrationLemmas as tape
 use Rattle.mb_top.proofs.SoFarLemmas.{live_written, so_far-lacks, so_far-held, so_far-stays, so_far-ends, so_far-front}
 use Rattle.mb_top.proofs.entry.bridge_within.Goals as goal
@@ -101,16 +102,16 @@ returns-clause-listed g c = λ traced s tells m all.
 pub returns-clause-no_note : goal.returns-clause-no_note
 returns-clause-no_note g c = λ command s tells m reads zero.
     let d = ends-at_status _ _ _ _ _ _ _ command Done refl zero m (returns-clause-contents g c tells) in
-    subst (HasNoNotes command) (sym (d.0).all) d.2
+    subst (HasNoNotes command) (sym ((d.0).all (one-reads command s reads))) d.2
 
 pub returns-clause-a_note : goal.returns-clause-a_note
 returns-clause-a_note g c = λ command s tells m reads one.
     let d = ends-at_status _ _ _ _ _ _ _ command Noted refl one m (returns-clause-contents g c tells) in
-    subst (HasNotes command) (sym (d.0).all) d.2
+    subst (HasNotes command) (sym ((d.0).all (one-reads command s reads))) d.2
 
 pub returns-clause-all_read : goal.returns-clause-all_read
 returns-clause-all_read g c = λ command s tells m reads all. sym
-    (went_through _ _ _ _ _ _ _ command all m (returns-clause-contents g c tells)).all
+    ((went_through _ _ _ _ _ _ _ command all m (returns-clause-contents g c tells)).all (one-reads command s reads))
 
 pub returns-clause-cut : goal.returns-clause-cut
 returns-clause-cut g c = λ command s tells m reads all. cut-at_end _ _ _ _ _ _ _ command s reads all m
@@ -201,3 +202,17 @@ returns-clause-migrates g c = λ tells m unhindered short is_whole.
     unhindered.reading unhindered.writing short (λ input f front. tape.whole-no_fault _ input f is_whole front)
     (c.run-status.ensures.ran tells))
     is_whole (returns-clause-contents g c tells)
+
+pub returns-clause-selftest : goal.returns-clause-selftest
+returns-clause-selftest g c = λ start count tells m zero.
+    ((ends-at_status _ _ _ _ _ _ _ (Selftesting start count) Done refl zero m
+    (returns-clause-contents g c tells)).0).output_is
+
+pub returns-clause-selftest_front : goal.returns-clause-selftest_front
+returns-clause-selftest_front g c = λ start count tells m four.
+    (ends-at_status _ _ _ _ _ _ _ (Selftesting start count) (Stopped Refused) refl four m
+    (returns-clause-contents g c tells)).front
+
+pub returns-clause-selftest_ends : goal.returns-clause-selftest_ends
+returns-clause-selftest_ends g c = λ start count m.
+    selftest-ends _ start count c.run-status.result _ c.code.ensures c.run-status.ensures.may m

@@ -1,0 +1,5 @@
+pub mod ConvertLemmas
+mod Examples
+pub mod MeantLemmas
+pub mod SumLemmas
+pub mod TextLemmas

@@ -1,0 +1,5 @@
+pub mod Selftest
+pub mod SumLaws
+pub mod SumOut
+pub mod Summed
+pub mod Texts
