@@ -211,7 +211,7 @@ ready head.Spent was b before told room bytes e a inside may holds c low front =
                 (noted 5 (clock before).moment (was.offset - 1) s.0 LoneStamp) ks (es ++ f.0) f.1))
 
 -- what a byte's token leaves
-record Leaves (o b : ℕ) (before : List Token) (t : Token) : Type 0 where
+pub record Leaves (o b : ℕ) (before : List Token) (t : Token) : Type 0 where
   pub news_is : byte_news before t ≡ news (last_of (payload before)) (spot before o b)
   pub payload_is : payload (t ∷ before) ≡ resumed (running before) (payload before ++ Heard (spot before o b) ∷ [])
   pub running_is : running (t ∷ before) ≡ running_then b (running before)
@@ -219,8 +219,8 @@ record Leaves (o b : ℕ) (before : List Token) (t : Token) : Type 0 where
   pub kind : (at x : ℕ) → byte_token at t x ≡ byte_token at (Ends 0) x
   pub stamp : (low : Bool) (rank known_at : ℕ) → lone low rank known_at (t ∷ before) ≡ []
 
-leaves : (o b : ℕ) (before : List Token) (t : Token) → ((t ≡ Data o b) × (nat_lt b 128 ≡ true)) ⊎ ((t ≡ Status o b) ×
-    (nat_lt b 128 ≡ false)) → Leaves o b before t
+pub leaves : (o b : ℕ) (before : List Token) (t : Token) → ((t ≡ Data o b) × (nat_lt b 128 ≡ true)) ⊎
+    ((t ≡ Status o b) × (nat_lt b 128 ≡ false)) → Leaves o b before t
 leaves o b before t (inl e) = subst (Leaves o b before) (sym e.0) (record {
   news_is = refl;
   payload_is = refl;
@@ -326,7 +326,7 @@ running-cases b run s = by (nat_lt b 128) (is_channel b) (is_realtime b || is_so
     by false false true c e = inl e
     by false false false c e = absurd (none_some s e)
 
-channel-begins : (g : Group) (x : Spot) → is_channel x.byte ≡ true → is_full (behind_entry g (Heard x)) ≡ false
+pub channel-begins : (g : Group) (x : Spot) → is_channel x.byte ≡ true → is_full (behind_entry g (Heard x)) ≡ false
 channel-begins g x e = by (is_realtime x.byte) (is_data x.byte) (not_rt x.byte e) (not_data x.byte e)
   where
     not_rt : (n : ℕ) → is_channel n ≡ true → is_realtime n ≡ false

@@ -1,8 +1,8 @@
--- A run of data bytes of an open SysEx.
+-- A run of data bytes, of an open SysEx or of a channel status.
 use Rattle.std.proofs.Common.{◌≡◌, ℕ, suc, ◌+◌, ◌-◌, ◌<◌, ◌≤◌, Bool, true, false, Option, Some, None, List, [], ◌∷◌}
 use Rattle.std.proofs.Common.{◌++◌, length, map, refl, ap, ap₂, sym, subst, ◌∙◌, arith, append_assoc, append-nil}
 use Rattle.std.proofs.Common.{length-append, inl}
-use Rattle.std.specs.Prelude.{if◌then◌else◌, nat_lt, ◌==◌, not, ◌&&◌, nat_le}
+use Rattle.std.specs.Prelude.{if◌then◌else◌, nat_lt, ◌==◌, not, ◌&&◌, ◌||◌, nat_le}
 use Rattle.std.proofs.lemmas.Bool.Decides.{nat_tests}
 use Rattle.mb_ble.proofs.Base.{Climb, climb-data, so_far-append, last_of-append, rises-to, rises-from, heard-append}
 use Rattle.mb_ble.proofs.Base.{cancel}
@@ -35,27 +35,56 @@ abbrev pub Low : List ℕ → Type 0
 Low [] = Unit {0}
 Low (b ∷ bs) = (nat_lt b 128 ≡ true) × Low bs
 
-open-full : (g : Group) → is_sysex g ≡ true → is_full g ≡ false
+-- data makes no System Common message whole
+abbrev pub never_full : Group → Bool
+never_full g = elim g.status as (λ _. Bool) [ None ↦ true | Some s ↦ is_channel s || (s == 0xf0) ]
+
+pub sysex-never : (g : Group) → is_sysex g ≡ true → never_full g ≡ true
+sysex-never g o = by g.status o
+  where
+    false≢true : false ≡ true → ⊥
+    false≢true e = cc
+
+    or_true : (a : Bool) → (a || true) ≡ true
+    or_true true = refl
+    or_true false = refl
+
+    by : (st : Option ℕ) → (elim st as (λ _. Bool) [ None ↦ false | Some s ↦ s == 0xf0 ]) ≡ true →
+        (elim st as (λ _. Bool) [ None ↦ true | Some s ↦ is_channel s || (s == 0xf0) ]) ≡ true
+    by None e = refl
+    by (Some s) e = ap (λ z. is_channel s || z) e ∙ or_true (is_channel s)
+
+pub open-full : (g : Group) → never_full g ≡ true → is_full g ≡ false
 open-full g o = by g.status o
   where
     false≢true : false ≡ true → ⊥
     false≢true e = cc
 
-    by : (st : Option ℕ) → (elim st as (λ _. Bool) [ None ↦ false | Some s ↦ s == 0xf0 ]) ≡ true →
+    by : (st : Option ℕ) → (elim st as (λ _. Bool) [ None ↦ true | Some s ↦ is_channel s || (s == 0xf0) ]) ≡ true →
         (elim st as (λ _. Bool) [
           | None ↦ false
           | Some s ↦ not (is_channel s) && elim (data_length s) as (λ _. Bool)
               [ None ↦ false | Some k ↦ nat_le k (length g.data_bytes) ]
         ]) ≡ false
     by None e = refl
-    by (Some s) e = subst (λ z. (not (is_channel z) && elim (data_length z) as (λ _. Bool) [
-      | None ↦ false
-      | Some k ↦
-          nat_le k (length g.data_bytes)
-    ]) ≡ false) (sym (is s e)) refl
+    by (Some s) e = kind (is_channel s) refl e
       where
         is : (s : ℕ) → (s == 0xf0) ≡ true → s ≡ 0xf0
         is s e = grind (arith, nat_tests)
+
+        kind : (c : Bool) → is_channel s ≡ c → (c || (s == 0xf0)) ≡ true →
+            (not (is_channel s) && elim (data_length s) as (λ _. Bool) [
+              | None ↦ false
+              | Some k ↦ nat_le k
+                  (length g.data_bytes)
+            ]) ≡ false
+        kind true c e = ap (λ z. not z && elim (data_length s) as (λ _. Bool) [
+          | None ↦ false
+          | Some k ↦ nat_le k
+              (length g.data_bytes)
+        ]) c
+        kind false c e = subst (λ z. (not (is_channel z) && elim (data_length z) as (λ _. Bool)
+            [ None ↦ false | Some k ↦ nat_le k (length g.data_bytes) ]) ≡ false) (sym (is s e)) refl
 
 data-behind : (g : Group) (x : Spot) → is_data x.byte ≡ true → behind_entry g (Heard x) ≡ longer g x
 data-behind g x e = ap₂ (λ r d. if r then g else (if d then longer g x else Rattle.mb_stream.specs.Groups.begun x))
@@ -64,11 +93,11 @@ data-behind g x e = ap₂ (λ r d. if r then g else (if d then longer g x else R
     not_rt : (n : ℕ) → is_data n ≡ true → is_realtime n ≡ false
     not_rt n e = grind (arith, nat_tests)
 
-pub open-behind : (g : Group) (x : Spot) → is_data x.byte ≡ true → is_sysex g ≡ true →
-    is_sysex (behind_entry g (Heard x)) ≡ true
-open-behind g x e o = ap is_sysex (data-behind g x e) ∙ o
+pub open-behind : (g : Group) (x : Spot) → is_data x.byte ≡ true → never_full g ≡ true →
+    never_full (behind_entry g (Heard x)) ≡ true
+open-behind g x e o = ap never_full (data-behind g x e) ∙ o
 
-open-resumed : (run : Option ℕ) (es : List Entry) → is_sysex (last_of es) ≡ true → resumed run es ≡ es
+open-resumed : (run : Option ℕ) (es : List Entry) → never_full (last_of es) ≡ true → resumed run es ≡ es
 open-resumed None es o = refl
 open-resumed (Some s) es o = ap (λ c. if c then es ++ Silent s ∷ [] else es) (open-full (last_of es) o)
 
@@ -76,17 +105,17 @@ abbrev pub datas : ℕ → List ℕ → List Token
 datas o [] = []
 datas o (b ∷ bs) = Data o b ∷ datas (o + 1) bs
 
--- a data byte in an open SysEx
-pub data-payload : (before : List Token) (o b : ℕ) → nat_lt b 128 ≡ true → is_sysex (last_of (payload before)) ≡ true →
-    payload (Data o b ∷ before) ≡ payload before ++ Heard (spot before o b) ∷ []
+-- a data byte where data makes no System Common message whole
+pub data-payload : (before : List Token) (o b : ℕ) → nat_lt b 128 ≡ true → never_full (last_of (payload before)) ≡
+    true → payload (Data o b ∷ before) ≡ payload before ++ Heard (spot before o b) ∷ []
 data-payload before o b low op = open-resumed (running before) (payload before ++ Heard (spot before o b) ∷ [])
-    (ap is_sysex (last_of-append (payload before) (Heard (spot before o b) ∷ [])) ∙
+    (ap never_full (last_of-append (payload before) (Heard (spot before o b) ∷ [])) ∙
     open-behind (last_of (payload before)) (spot before o b) low op)
 
-pub data-open : (before : List Token) (o b : ℕ) → nat_lt b 128 ≡ true → is_sysex (last_of (payload before)) ≡ true →
-    is_sysex (last_of (payload (Data o b ∷ before))) ≡ true
-data-open before o b low op = ap (λ z. is_sysex (last_of z)) (data-payload before o b low op) ∙
-    ap is_sysex (last_of-append (payload before) (Heard (spot before o b) ∷ [])) ∙
+pub data-open : (before : List Token) (o b : ℕ) → nat_lt b 128 ≡ true → never_full (last_of (payload before)) ≡ true →
+    never_full (last_of (payload (Data o b ∷ before))) ≡ true
+data-open before o b low op = ap (λ z. never_full (last_of z)) (data-payload before o b low op) ∙
+    ap never_full (last_of-append (payload before) (Heard (spot before o b) ∷ [])) ∙
     open-behind (last_of (payload before)) (spot before o b) low op
 
 -- what a run's tokens leave
@@ -100,7 +129,7 @@ pub record Ran (o m : ℕ) (before : List Token) (run : List ℕ) : Type 0 where
   pub kind : (at b : ℕ) → byte_token at (last (onto before (datas o run))) b ≡ byte_token at (Ends 0) b
   pub stamp : (low : Bool) (rank known_at : ℕ) → lone low rank known_at (onto before (datas o run)) ≡ []
 
-pub ran : (run : List ℕ) (o m : ℕ) (before : List Token) → Low run → is_sysex (last_of (payload before)) ≡ true →
+pub ran : (run : List ℕ) (o m : ℕ) (before : List Token) → Low run → never_full (last_of (payload before)) ≡ true →
     (clock before).moment ≡ m → ((at b : ℕ) → byte_token at (last before) b ≡ byte_token at (Ends 0) b) →
     ((low : Bool) (rank known_at : ℕ) → lone low rank known_at before ≡ []) → Ran o m before run
 ran [] o m before low op c k s = record {
@@ -267,7 +296,7 @@ pub run_taken : (was now : Content) (b : ℕ) (run left : List ℕ) (seen : List
     (told : List Known) (room : ℕ) (following : List ℕ) (stamp : List Known) (dinm : State) → Holds was before told →
     nat_lt b 128 ≡ true → Low run →
     byte_token was.offset (last before) b ≡ Data was.offset b → unit_note before (Data was.offset b) ≡ told →
-    is_sysex (last_of (payload before)) ≡ true → length (b ∷ run) ≤ room →
+    never_full (last_of (payload before)) ≡ true → length (b ∷ run) ≤ room →
     RunDined dinm (b ∷ run) seen (payload before) was.offset (clock before).moment → now ≡ record was {
       offset =
           was.offset + length (b ∷ run);
@@ -320,11 +349,11 @@ run_taken was now b run left seen before told room following stamp dinm holds lo
     shift : (o : ℕ) → o + 1 + length run ≡ o + length (b ∷ run)
     shift o = omega arith
 
-    open-now : is_sysex (last_of (payload (onto (t ∷ before) (datas (was.offset + 1) run)))) ≡ true
+    open-now : never_full (last_of (payload (onto (t ∷ before) (datas (was.offset + 1) run)))) ≡ true
     open-now = ran-open run (was.offset + 1) (t ∷ before) lows (data-open before was.offset b low op)
       where
-        ran-open : (run : List ℕ) (o : ℕ) (before : List Token) → Low run → is_sysex (last_of (payload before)) ≡ true →
-            is_sysex (last_of (payload (onto before (datas o run)))) ≡ true
+        ran-open : (run : List ℕ) (o : ℕ) (before : List Token) → Low run → never_full (last_of (payload before)) ≡
+            true → never_full (last_of (payload (onto before (datas o run)))) ≡ true
         ran-open [] o before l op = op
         ran-open (y ∷ run) o before l op = ran-open run (o + 1) (Data o y ∷ before) l.1 (data-open before o y l.0 op)
 

@@ -143,7 +143,7 @@ tells-step was now input left seen f = record {
 pub tells-refl : (u : Position) (input : List ℕ) → BleTells u u input input []
 tells-refl u input = record { goes = generic.tells-refl part_of ble_known (BleStands u) input }
 
-no_parts : (ks : List Known) → map part_of ks ≡ [] → ks ≡ []
+pub no_parts : (ks : List Known) → map part_of ks ≡ [] → ks ≡ []
 no_parts [] e = refl
 no_parts (k ∷ ks) e = absurd (cons_nil (part_of k) (map part_of ks) e)
   where

@@ -4,7 +4,7 @@ ghost use Rattle.std.specs.Prelude.{◌≡◌, ℕ, List, [], ◌∷◌, ◌++�
 ghost use Rattle.std.specs.Prelude.{false, true, length, IfNone, IfSome, OnSome, IsSome, ◌↔◌, nat_lt, if◌then◌else◌};
 ghost use Rattle.std.specs.Prelude.{take, drop};
 ghost use Rattle.mb_clock.specs.Clock.{clock_of};
-ghost use Rattle.mb_din.specs.Reader.{Stands, RunNext};
+ghost use Rattle.mb_din.specs.Reader.{Stands, RunNext, is_all_data};
 ghost use Rattle.mb_din.specs.State.{fresh, free_now, open_now, owed, Rests};
 ghost use Rattle.mb_din.specs.Turn.{data_front};
 ghost use Rattle.mb_message.specs.Bytes.{is_channel};
@@ -22,7 +22,7 @@ ghost use Rattle.mb_ble.specs.Stands.{Reads, Counts, MayRun, HasOpen, is_heady};
 ghost use Rattle.mb_stream.specs.ReaderLaw.{IsLongest, StatusNext, breaks, begins_run, answer};
 ghost use Rattle.mb_ble.specs.State.{Calm, is_between, content_owed};
 
-use crate::classes::{is_common, is_low, run_len, running_then};
+use crate::classes::{is_common, is_data_next, is_low, pair_len, run_len, running_then};
 use mb_clock::Unwrap;
 use mb_din::DinReader;
 use mb_message::{Note, NoteKind, Seen};
@@ -73,6 +73,7 @@ impl Content {
         }
     }
 
+    #[inline(always)]
     pub fn moment(&self) -> u64
         ensures { result ≡ self.now.clock.moment }
     {
@@ -80,6 +81,7 @@ impl Content {
     }
 
     /// The first byte of a length was taken with the second.
+    #[inline(always)]
     pub fn enter<'a>(&mut self, len: u16) -> Option<Seen<'a>>
         requires { self.old.offset + 2 < 2 ^ 64 }
         ensures state { self.new ≡ record self.old { offset = self.old.offset + 2; head = AtHeader; running = None } }
@@ -104,6 +106,7 @@ impl Content {
     }
 
     /// A byte at which no message is read.
+    #[inline(always)]
     fn head_byte<'a>(&mut self, byte: u8) -> Option<Seen<'a>>
         requires { self.old.offset + 1 < 2 ^ 64 }
         ensures state { self.new ≡ headed self.old byte }
@@ -130,6 +133,7 @@ impl Content {
         None
     }
 
+    #[inline(always)]
     fn take_stamp(&mut self, byte: u8)
         requires early { self.old.offset + 1 < 2 ^ 64 }
         requires moments { self.old.clock.moment < 2 ^ 63 }
@@ -142,6 +146,7 @@ impl Content {
     }
 
     /// The note of a stamp.
+    #[inline(always)]
     fn spend<'a>(&mut self, at: u64) -> Option<Seen<'a>>
         ensures state { self.new ≡ record self.old { head = AtSpent } }
         ensures told { answer result ≡ Notes at LoneStampKind ∷ [] }
@@ -158,6 +163,7 @@ impl Content {
     }
 
     /// Hands a piece to the byte stream's reader.
+    #[inline(always)]
     fn hand<'a>(&mut self, piece: &mut &'a [u8]) -> Option<Seen<'a>>
         requires placed { self.old.din.offset ≤ self.old.offset }
         requires early { self.old.offset + length piece.old.now < 2 ^ 63 }
@@ -180,6 +186,7 @@ impl Content {
     }
 
     /// A byte was taken. Where a System Common message was told at it, the packet's channel status runs on.
+    #[inline(always)]
     fn took(&mut self, byte: u8, common: bool)
         requires early { self.old.offset + 1 < 2 ^ 64 }
         requires runs { IfSome self.old.running (λ s. is_channel s ≡ true) }
@@ -197,6 +204,7 @@ impl Content {
     }
 
     /// A content's end comes next: what it tells of a stamp.
+    #[inline(always)]
     pub fn end_stamp<'a>(&mut self) -> Option<Seen<'a>>
         ensures some { OnSome result ((at : ℕ) × (self.old.head ≡ AtStamped at)
             × (answer result ≡ Notes at LoneStampKind ∷ []) × (self.new ≡ record self.old { head = AtSpent })) }
@@ -213,6 +221,7 @@ impl Content {
     }
 
     /// Takes a content's end.
+    #[inline(always)]
     pub fn end_groups<'a>(&mut self) -> Option<Seen<'a>>
         ensures ended { EndedBy self.old self.new (answer result) }
         ensures silent { told_signs (answer result) ≡ [] }
@@ -231,6 +240,7 @@ impl Content {
     }
 
     /// Reads a byte at which no message is read.
+    #[inline(always)]
     fn read_head<'a>(&mut self, piece: &mut &'a [u8]) -> Option<Seen<'a>>
         requires early { self.old.offset + length piece.old.now < 2 ^ 63 }
         requires head { is_heady self.old.head ≡ true }
@@ -254,6 +264,7 @@ impl Content {
     }
 
     /// Reads a stamp.
+    #[inline(always)]
     fn read_stamp<'a>(&mut self, piece: &mut &'a [u8])
         requires early { self.old.offset + length piece.old.now < 2 ^ 63 }
         requires moments { self.old.clock.moment < 2 ^ 63 }
@@ -265,6 +276,9 @@ impl Content {
         ensures falls { 2 * length piece.new.now + content_owed self.new
             < 2 * length piece.old.now + content_owed self.old }
         ensures less { length piece.new.now < length piece.old.now }
+        ensures end { self.new.offset + length piece.new.now ≡ self.old.offset + length piece.old.now }
+        ensures din { self.new.din ≡ self.old.din }
+        ensures stamped { self.new.head ≡ AtStamped self.old.offset }
     {
         if let Some((byte, rest)) = piece.split_first() {
             *piece = rest;
@@ -273,6 +287,7 @@ impl Content {
     }
 
     /// Reads a byte of a message.
+    #[inline(always)]
     fn read_byte<'a>(&mut self, piece: &mut &'a [u8]) -> Option<Seen<'a>>
         requires placed { self.old.din.offset ≤ self.old.offset }
         requires early { self.old.offset + length piece.old.now < 2 ^ 63 }
@@ -308,7 +323,65 @@ impl Content {
         seen
     }
 
+    /// Reads a channel message that stands whole behind its stamp, with no data byte behind it, as nearly all do.
+    /// `None`, and nothing is taken, where anything else stands there.
+    #[inline(always)]
+    fn read_whole<'a>(&mut self, piece: &mut &'a [u8]) -> Option<Seen<'a>>
+        requires placed { self.old.din.offset ≤ self.old.offset }
+        requires early { self.old.offset + length piece.old.now < 2 ^ 63 }
+        requires head { is_heady self.old.head ≡ false }
+        requires stamped { self.old.head ≡ AtInside → ⊥ }
+        ensures reads { OnSome result (Reads self.old self.new piece.old.now piece.new.now (answer result)) }
+        ensures counts { OnSome result (Counts self.old self.new piece.old.now piece.new.now) }
+        ensures same { IfNone result (self.new ≡ self.old) }
+        ensures stays { IfNone result (piece.new.now ≡ piece.old.now) }
+        ensures kept { 2 * length piece.new.now + content_owed self.new
+            ≤ 2 * length piece.old.now + content_owed self.old }
+        ensures left { length piece.new.now ≤ length piece.old.now }
+        ensures some { OnSome result (answer result ≡ [] → ⊥) }
+        ensures unbroken { breaks (answer result) ≡ false }
+        ensures few { length (told_signs (answer result)) ≤ length piece.old.now }
+        ensures longest { IfSome result (IsLongest piece.new.now) }
+    {
+        let (status, rest) = piece.split_first()?;
+        let status = *status;
+        if status < 0x80 || status >= 0xf0 {
+            return None;
+        }
+        let (data1, left) = rest.split_first()?;
+        if status >= 0xc0 && status < 0xe0 {
+            if is_data_next(left) {
+                return None;
+            }
+            let seen = self.din.read_two(self.offset, status, *data1)?;
+            self.pass_message(status, 2);
+            *piece = left;
+            return Some(seen);
+        }
+        let (data2, behind) = left.split_first()?;
+        if is_data_next(behind) {
+            return None;
+        }
+        let seen = self.din.read_three(self.offset, status, *data1, *data2)?;
+        self.pass_message(status, 3);
+        *piece = behind;
+        Some(seen)
+    }
+
+    /// A channel message of so many bytes was taken.
+    #[inline(always)]
+    fn pass_message(&mut self, status: u8, len: u64)
+        requires { self.old.offset + len < 2 ^ 64 }
+        ensures { self.new ≡
+            record self.old { offset = self.old.offset + len; head = AtInside; running = Some status } }
+    {
+        self.offset += len;
+        self.head = Head::Inside;
+        self.running = Some(status);
+    }
+
     /// Steps over data bytes.
+    #[inline(always)]
     fn advance(&mut self, count: u64)
         requires { self.old.offset + count < 2 ^ 64 }
         ensures { self.new ≡ advanced self.old count }
@@ -319,16 +392,19 @@ impl Content {
         }
     }
 
-    /// Reads the data bytes at the front, of an open SysEx: the longest run that stands there.
-    fn read_run<'a>(&mut self, piece: &mut &'a [u8]) -> Option<Seen<'a>>
+    /// Hands data bytes at the front to the byte stream's reader: of an open SysEx, or of a channel status that runs.
+    #[inline(always)]
+    fn read_data<'a>(&mut self, piece: &mut &'a [u8], len: usize) -> Option<Seen<'a>>
         requires placed { self.old.din.offset ≤ self.old.offset }
         requires early { self.old.offset + length piece.old.now < 2 ^ 63 }
         requires head { is_heady self.old.head ≡ false }
-        requires low { (b : ℕ) (bs : List ℕ) → piece.old.now ≡ b ∷ bs → nat_lt b 128 ≡ true }
+        requires some { 0 < len }
+        requires bound { len ≤ length piece.old.now }
+        requires low { is_all_data (take len piece.old.now) ≡ true }
         requires lone { (at b : ℕ) (bs : List ℕ) → piece.old.now ≡ b ∷ bs → self.old.head ≡ AtStamped at →
             nat_lt b 128 ≡ true → MayRun self.old.din true }
-        requires open { HasOpen self.old.din true }
-        requires some { 0 < length piece.old.now }
+        requires begun { HasOpen self.old.din true ⊎ MayRun self.old.din true }
+        requires longest { open_now self.old.din ≡ true → data_front (drop len piece.old.now) ≡ [] }
         ensures reads { Reads self.old self.new piece.old.now piece.new.now (answer result) }
         ensures counts { Counts self.old self.new piece.old.now piece.new.now }
         ensures falls { 2 * length piece.new.now + content_owed self.new
@@ -339,7 +415,6 @@ impl Content {
         ensures none { IfNone result (length piece.new.now < length piece.old.now) }
         ensures longest { IfSome result (IsLongest piece.new.now) }
     {
-        let len = run_len(piece);
         let mut run = piece.split_at(len).0;
         let seen = self.hand(&mut run);
         let used = len - run.len();
@@ -348,8 +423,38 @@ impl Content {
         seen
     }
 
-    /// The next mark or note of a content's bytes.
+    /// The next mark or note of a content's bytes. A message behind its stamp is what nearly all bytes are, and stands
+    /// by itself for a compiler's sake.
+    #[inline(always)]
     pub fn read<'a>(&mut self, piece: &mut &'a [u8]) -> Option<Seen<'a>>
+        requires early { self.old.offset + length piece.old.now < 2 ^ 63 }
+        requires calm { Calm self.old }
+        requires inside { is_between self.old.head ≡ false }
+        requires moments { self.old.clock.moment < 2 ^ 63 }
+        requires some { 0 < length piece.old.now }
+        ensures reads { Reads self.old self.new piece.old.now piece.new.now (answer result) }
+        ensures counts { Counts self.old self.new piece.old.now piece.new.now }
+        ensures falls { 2 * length piece.new.now + content_owed self.new
+            < 2 * length piece.old.now + content_owed self.old }
+        ensures some { OnSome result (answer result ≡ [] → ⊥) }
+        ensures before { breaks (answer result) ≡ true → StatusNext piece.new.now × Rests self.new.din }
+        ensures few { length (told_signs (answer result)) ≤ length piece.old.now }
+        ensures longest { IfSome result (IsLongest piece.new.now) }
+        ensures none { IfNone result (length piece.new.now < length piece.old.now) }
+    {
+        let low = is_low(piece);
+        if let Head::Inside = self.head
+            && !low
+        {
+            self.read_stamp(piece);
+            return self.read_whole(piece);
+        }
+        self.read_other(piece)
+    }
+
+    /// The same, whatever stands there.
+    #[inline(never)]
+    fn read_other<'a>(&mut self, piece: &mut &'a [u8]) -> Option<Seen<'a>>
         requires early { self.old.offset + length piece.old.now < 2 ^ 63 }
         requires calm { Calm self.old }
         requires inside { is_between self.old.head ≡ false }
@@ -373,7 +478,14 @@ impl Content {
                 None
             }
             Head::Stamped(at) if low && !self.din.may_run() => self.spend(at),
-            _ if low && self.din.in_sysex() => self.read_run(piece),
+            _ if low && self.din.in_sysex() => {
+                let len = run_len(piece);
+                self.read_data(piece, len)
+            }
+            _ if low && self.din.may_run() => {
+                let len = pair_len(piece);
+                self.read_data(piece, len)
+            }
             _ => self.read_byte(piece),
         }
     }

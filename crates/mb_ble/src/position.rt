@@ -23,6 +23,7 @@ pub struct Position {
 }
 
 /// So many bytes of a content were taken.
+#[inline(always)]
 fn pass(frames: &mut Frames, used: u16)
     requires within { 0 < room_of frames.old }
     requires room { used ≤ room_of frames.old }
@@ -35,6 +36,7 @@ fn pass(frames: &mut Frames, used: u16)
 
 impl Position {
     /// What the end of a packet makes known. With nothing more to tell it is taken.
+    #[inline(always)]
     fn end<'a>(&mut self) -> Option<Seen<'a>>
         requires fit { Fit self.old }
         requires end { self.old.frames ≡ Within 0 }
@@ -57,6 +59,7 @@ impl Position {
     }
 
     /// Takes a byte of a length.
+    #[inline(always)]
     fn read_length<'a>(&mut self, input: &mut &'a [u8]) -> Option<Seen<'a>>
         requires fit { Fit self.old }
         requires early { ble_offset self.old + length input.old.now < 2 ^ 63 }
@@ -84,6 +87,7 @@ impl Position {
     }
 
     /// Reads bytes of a content.
+    #[inline(always)]
     fn read_content<'a>(&mut self, input: &mut &'a [u8]) -> Option<Seen<'a>>
         requires fit { Fit self.old }
         requires early { ble_offset self.old + length input.old.now ≤ 2 ^ 51 + 2 ^ 14 }
@@ -109,6 +113,7 @@ impl Position {
     }
 
     /// What is to be told before a byte is taken: what the end of a packet makes known.
+    #[inline(always)]
     fn settle<'a>(&mut self) -> Option<Seen<'a>>
         requires fit { Fit self.old }
         ensures tells { (input : List ℕ) → BleTells self.old self.new input input (at_moment self.new (answer result)) }
@@ -129,6 +134,7 @@ impl Position {
     }
 
     /// Reads bytes.
+    #[inline(always)]
     fn take<'a>(&mut self, input: &mut &'a [u8]) -> Option<Seen<'a>>
         requires fit { Fit self.old }
         requires early { ble_offset self.old + length input.old.now ≤ 2 ^ 51 + 2 ^ 14 }
@@ -151,6 +157,7 @@ impl Position {
     }
 
     /// The next mark or note. `None` comes where the input is used up and all of it is told.
+    #[inline(always)]
     pub(crate) fn next<'a>(&mut self, input: &mut &'a [u8]) -> Option<Seen<'a>>
         requires fit { Fit self.old }
         requires early { ble_offset self.old + length input.old.now ≤ 2 ^ 51 + 2 ^ 14 }
