@@ -238,6 +238,7 @@ unread-by : (c : Command) (input : List ℕ) (handle : ℕ) → (reads_from c 0 
     reads_from c handle ≡ false → seen_at input handle ≡ []
 unread-by (Converting tally first between last) input handle none e = unread input handle e
 unread-by (Listing traced s) input handle none e = unread input handle e
+unread-by Migrating input handle none e = unread input handle e
 unread-by (Selftesting start count) input handle none e = none-read input handle (none refl)
 
 unwritten : (output words : List ℕ) (handle : ℕ) → ((handle == 1) || (handle == 2)) ≡ false →
@@ -623,6 +624,9 @@ selftest-ends words start count status answer number may means = by_status statu
     by_status (Stopped ReadFault) e may =
         absurd (wrong (sym (its (Stopped ReadFault) may
         (other_status (Stopped ReadFault) Usage (λ e. omega (arith, e))))))
+    by_status (Stopped (BadTape f)) e may =
+        absurd (wrong (sym (its (Stopped (BadTape f)) may
+        (other_status (Stopped (BadTape f)) Usage (λ e. omega (arith, e))))))
     by_status (Stopped TooLong) e may =
         absurd (wrong (sym (its (Stopped TooLong) may
         (other_status (Stopped TooLong) Usage (λ e. omega (arith, e))))))

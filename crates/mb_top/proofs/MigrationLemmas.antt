@@ -44,7 +44,7 @@ by_status limit left read written tally Done other ends =
     record {
       written_is = (ends.0).output_is;
       fault = sound-at read 0 (λ e. omega (arith, e)) (ends.0).sound;
-      end = λ all. (sym (ends.0).all, (λ e. absurd (omega (arith, e)), λ h. absurd (wrong (sym (ends.1) ∙ h))));
+      end = λ all. (sym ((ends.0).all refl), (λ e. absurd (omega (arith, e)), λ h. absurd (wrong (sym (ends.1) ∙ h))));
     }
 by_status limit left read written tally Noted other ends = absurd (ends.2)
 by_status limit left read written tally Usage other ends = absurd ends
@@ -52,7 +52,7 @@ by_status limit left read written tally Cut other ends =
     record {
       written_is = (ends.0).output_is;
       fault = sound-at read 5 (λ e. omega (arith, e)) (ends.0).sound;
-      end = λ all. (sym (ends.0).all, (λ e. ends.1, λ h. refl));
+      end = λ all. (sym ((ends.0).all refl), (λ e. ends.1, λ h. refl));
     }
 by_status limit left read written tally NoMemory other ends = absurd (wrong (sym (ends.3)))
 by_status limit left read written tally (Stopped ReadFault) other ends =
@@ -146,7 +146,7 @@ completes words limit before after faults faults_now answer m all is a =
         code_of s ≡ 0
     by_end Done e ends = refl
     by_end Noted e ends = absurd (ends.2)
-    by_end Cut e ends = absurd (wrong (sym is ∙ (ap tape_whole (ends.0).all ∙ ends.1)))
+    by_end Cut e ends = absurd (wrong (sym is ∙ (ap tape_whole ((ends.0).all refl) ∙ ends.1)))
     by_end Usage e ends = absurd ends
     by_end NoMemory e ends = absurd (wrong (sym e))
     by_end (Stopped ReadFault) e ends = absurd (wrong (sym e))
