@@ -1,5 +1,5 @@
 -- A command on its way, over a desk that tells its contents.
-use Rattle.std.proofs.Common.{◌≡◌, Bool, IsTrue, ℕ, ◌+◌, ◌-◌, ◌<◌, ◌≤◌, true, false, not, List, ◌++◌, [], map, length}
+use Rattle.std.proofs.Common.{◌≡◌, Bool, IsTrue, ℕ, ◌+◌, ◌-◌, ◌<◌, ◌≤◌, true, false, not, List, ◌++◌, [], length}
 use Rattle.std.proofs.Common.{take, drop, refl, inl, inr, sym, ◌∙◌, ap, subst, append_assoc, arith, length-append}
 use Rattle.std.proofs.lemmas.List.{append-nil, take-append-drop, drop_at, length-take-le, take-append-le}
 use Rattle.mb_outside.specs.Contents.{Contents, Gives, after_read, after_write}
