@@ -1,6 +1,6 @@
 -- A tape in the second form goes on behind each stretch of the tape that it is made of.
-use Rattle.std.proofs.Common.{◌≡◌, ℕ, zero, suc, ◌+◌, ◌-◌, ◌<◌, ◌≤◌, Bool, true, false, List, [], ◌∷◌, ◌++◌, length}
-use Rattle.std.proofs.Common.{Option, Some, None, take, flat_map, refl, sym, ◌∙◌, ap, subst, arith, append_assoc}
+use Rattle.std.proofs.Common.{◌≡◌, ℕ, zero, suc, ◌+◌, ◌-◌, ◌<◌, Bool, true, false, List, [], ◌∷◌, ◌++◌, length}
+use Rattle.std.proofs.Common.{Some, None, take, flat_map, refl, sym, ◌∙◌, ap, arith, append_assoc}
 use Rattle.std.proofs.Common.{append-nil, length-append}
 use Rattle.std.specs.Prelude.{nat_lt, nat_le, ◌==◌, ◌&&◌, not, if◌then◌else◌}
 use Rattle.std.proofs.lemmas.Bool.Decides.{nat_tests}
@@ -8,8 +8,7 @@ use Rattle.std.proofs.lemmas.Bool.{false≢true, true≢false}
 use Rattle.std.proofs.lemmas.Grind.{flat_map-append}
 use Rattle.mb_frames.specs.Tapes.{RecordPart, RecordHeader, header_of, header_size, header_fault, most_milliseconds}
 use Rattle.mb_frames.specs.Tapes.{fits_magic, all_fit_magic, magic, tape_parts, tape_fault, fault_in}
-use Rattle.mb_frames.specs.TapeSteps.{TapeState, fresh, begun, tape_behind, tape_behind_by, behind_head, magic_step}
-use Rattle.mb_frames.specs.TapeSteps.{rested}
+use Rattle.mb_frames.specs.TapeSteps.{TapeState, fresh, begun, tape_behind, behind_head, rested}
 use Rattle.mb_frames.specs.TapeSteps.{rest_by, end_by, parts_by, parts_from, after, ending_at, magic_taken}
 use Rattle.mb_frames.specs.TapeReading.{TapeTakes}
 use Rattle.mb_frames.specs.Migrated.{part_bytes, tape2, magic_is_whole, magic_between, migrated_from, step_bytes}

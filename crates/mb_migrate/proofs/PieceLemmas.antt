@@ -1,6 +1,6 @@
 -- A piece of a tape on its way to the second form.
 use Rattle.std.proofs.Common.{◌≡◌, ◌≢◌, ℕ, zero, suc, Bool, true, false, List, [], ◌∷◌, ◌++◌, length, flat_map, refl}
-use Rattle.std.proofs.Common.{sym, ◌∙◌, ap, subst, append_assoc, append-nil, Option, Some, None}
+use Rattle.std.proofs.Common.{sym, ◌∙◌, ap, subst, append-nil, Some, None}
 use Rattle.std.specs.Prelude.{◌==◌, if◌then◌else◌, Result, Ok, Err, OnOk, IfOk}
 use Rattle.mb_frames.specs.Tapes.{RecordPart, Whole, Inside, fault_in}
 use Rattle.mb_frames.specs.TapeSteps.{TapeState, after, end_by, ending_at, ending_by, magic_taken, parts_from, rest_by}

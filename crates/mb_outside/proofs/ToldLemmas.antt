@@ -2,7 +2,7 @@
 use Rattle.std.proofs.Common.{◌≡◌, ℕ, zero, suc, ◌+◌, ◌-◌, ◌<◌, ◌≤◌, Bool, true, false, ◌==◌, if◌then◌else◌, List, []}
 use Rattle.std.proofs.Common.{◌∷◌, ◌++◌, length, set, take, drop, map, Option, Some, None, inl, inr, refl, sym, ◌∙◌, ap}
 use Rattle.std.proofs.Common.{subst, min, arith}
-use Rattle.std.specs.Prelude.{slice_get, nat_le, not, ◌||◌, ◌&&◌}
+use Rattle.std.specs.Prelude.{slice_get, nat_le, ◌||◌, ◌&&◌}
 use Rattle.std.proofs.lemmas.Bool.{cases_lt, false≢true}
 use Rattle.std.proofs.lemmas.Bool.Decides.{nat_tests}
 use Rattle.std.proofs.lemmas.List.{append-nil, drop-drop, length-map, map_push, nil_from_length}
@@ -40,8 +40,8 @@ pub wrote : (files : List (List ℕ × List ℕ)) (input : List ℕ) (at : ℕ) 
 wrote files input at places log now handle bytes wanted before logged_is same before_is =
     ap (told files input at places) logged_is
     ∙ (told-write files input at places log handle bytes
-    ∙ (ap (λ bs. after_write handle bs (told files input at places log)) same ∙ ap (after_write handle wanted)
-    before_is))
+    ∙ (ap (λ bs. after_write handle bs (told files input at places log)) same
+    ∙ ap (after_write handle wanted) before_is))
 
 -- an entry at 0 over other entries
 entry_at_zero : (b : Bool) (x y z : List ℕ) → (if b then x else z) ≡ (if b then x else (if b then y else z))

@@ -1,12 +1,9 @@
 -- Laws of a desk's contents: equal entry by entry is equal, and two steps are one.
-use Rattle.std.proofs.Common.{◌≡◌, ℕ, ◌+◌, ◌-◌, Bool, true, false, Some, List, [], ◌∷◌, ◌++◌, length, take, drop, refl}
-use Rattle.std.proofs.Common.{sym, ◌∙◌, ap, append_assoc, arith}
-use Rattle.std.specs.Prelude.{slice_get, nat_le, ◌==◌, ◌||◌, ◌&&◌}
+use Rattle.std.proofs.Common.{◌≡◌, ℕ, ◌+◌, List, [], ◌++◌, take, drop, refl, sym, ◌∙◌, ap, append_assoc, arith}
 use Rattle.std.proofs.lemmas.List.{append-nil, drop-drop}
 use Rattle.std.proofs.Math.Seq.{take-add}
 use Rattle.std.proofs.lemmas.Bool.Decides.{nat_tests}
-use Rattle.mb_outside.specs.Contents.{Contents, with_entry, after_read, after_write, after_open, after_create}
-use Rattle.mb_outside.specs.Contents.{next_handle, is_readable, is_writable, reads_given, writes_given}
+use Rattle.mb_outside.specs.Contents.{Contents, with_entry, after_read, after_write}
 
 pub same_contents : (a b : Contents) → ((h : ℕ) → a.left h ≡ b.left h) → ((h : ℕ) → a.taken h ≡ b.taken h) →
     ((h : ℕ) → a.written h ≡ b.written h) → a.given ≡ b.given → a ≡ b

@@ -1,5 +1,5 @@
 -- What was taken in two steps was taken; and parts of lists.
-use Rattle.std.proofs.Common.{◌≡◌, ℕ, ◌<◌, Bool, List, [], ◌∷◌, ◌++◌, length, IsTrue, refl, sym, ◌∙◌, ap, append_assoc}
+use Rattle.std.proofs.Common.{◌≡◌, ℕ, Bool, List, [], ◌++◌, length, IsTrue, refl, sym, ◌∙◌, ap, append_assoc}
 use Rattle.std.proofs.Common.{take, drop, arith, length-append}
 use Rattle.std.proofs.lemmas.List.{take-append-drop}
 use Rattle.mb_outside.specs.Contents.{Contents, after_write}

@@ -9,7 +9,7 @@ ghost use Rattle.mb_outside.specs.Contents.{TakesSome};
 #[derive(Clone, Copy, Debug, PartialEq, Eq)]
 pub struct Failed;
 
-/// Handle 0 is standard input, 1 standard output, 2 standard error; the files that are opened and created have 3 and up.
+/// Handle 0 is standard input, 1 standard output, 2 standard error; files that are opened and created have 3 and up.
 pub trait Desk {
     /// Whether the desk tells its contents. No call changes it.
     ghost tells: { Bool };

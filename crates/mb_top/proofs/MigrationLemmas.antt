@@ -15,7 +15,7 @@ use Rattle.mb_frames.specs.declared.tape.Place.TheVariants as place
 use Rattle.mb_frames.proofs.MigrateLemmas.{told-again}
 use Rattle.mb_frames.proofs.MigratingLemmas.{after-split, fault-all}
 use Rattle.mb_words.specs.Command.{Migrating, Means}
-use Rattle.mb_top.specs.Answer.{Answered, EndsAs, DidAll, taken_off, added_to, code_of, read_all}
+use Rattle.mb_top.specs.Answer.{Answered, EndsAs, taken_off, added_to, code_of, read_all}
 use Rattle.mb_top.specs.declared.status.Status.{Status}
 use Rattle.mb_top.specs.declared.status.Status.TheVariants.{Done, Noted, Usage, Cut, NoMemory, Stopped}
 use Rattle.mb_top.specs.declared.status.Stop.TheVariants.{ReadFault, Refused, TooLong, BadTape}

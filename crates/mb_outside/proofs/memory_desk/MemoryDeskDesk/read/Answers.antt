@@ -1,7 +1,6 @@
-use Rattle.std.proofs.Common.{set, min, arith, ◌≡◌, ◌∙◌, ◌+◌, ◌-◌, ◌≤◌, ◌<◌, ap, refl, sym, subst, length}
+use Rattle.std.proofs.Common.{set, min, arith, ◌≡◌, ◌∙◌, ◌-◌, ap, refl, sym, subst, length}
 use Rattle.std.proofs.Common.{take, drop, ℕ, List, Some, true}
 use Rattle.std.proofs.lemmas.Grind.{common_steps}
-use Rattle.std.proofs.lemmas.List.{nil_from_length}
 use Rattle.std.proofs.lemmas.Option.{slice_get_within}
 use Rattle.mb_outside.specs.Contents.{Contents, after_read, is_readable}
 use Rattle.mb_outside.specs.Place.{Place, moved_on}
