@@ -196,5 +196,39 @@ expect "a cut recording: status" 5 $?
 expect "a cut recording: standard output" 903c64 "$(hex <"$room/out")"
 expect "a cut recording: standard error" "input is cut" "$(cat "$room/err")"
 
+# A tape of two records, cut behind each of its bytes: what stands whole of it is written, and the answer is 5 but where
+# a magic or a record ends.
+bytes 4d42543100000000000000050001f800000000000000070003903c64 >"$room/tape"
+"$program" migrate <"$room/tape" >"$room/whole" 2>"$room/err"
+expect "a tape: status" 0 $?
+expect "a tape" 4d4254320000000000001388000001f80000000000001b58000003903c64 "$(hex <"$room/whole")"
+for ((cut = 0; cut < $(wc -c <"$room/tape"); cut++)); do
+  head -c "$cut" "$room/tape" | "$program" migrate >"$room/out" 2>"$room/err"
+  status=$?
+  # the magic, a header of 10 bytes that becomes 11, a byte, a header, three bytes
+  if ((cut < 4)); then given=0; elif ((cut < 14)); then given=4; elif ((cut < 15)); then given=15
+  elif ((cut < 25)); then given=16; else given=$((cut + 2)); fi
+  if ((cut == 4 || cut == 15)); then wanted=0; else wanted=5; fi
+  expect "a tape cut at $cut: status" "$wanted" "$status"
+  expect "a tape cut at $cut" "$(head -c "$given" "$room/whole" | hex)" "$(hex <"$room/out")"
+done
+
+# A tape in the second form stays as it is: 256 tracks in turn, and a record of 65,535 bytes.
+{ bytes 4d425432
+  for ((track = 0; track < 256; track++)); do bytes "$(printf '%016x%02x0001f8' "$track" "$track")"; done
+  bytes 00000000000001000affff
+  head -c 65535 /dev/zero; } >"$room/tape"
+"$program" migrate <"$room/tape" >"$room/out" 2>"$room/err"
+expect "a long tape: status" 0 $?
+cmp -s "$room/out" "$room/tape" || expect "a long tape" "the same bytes" "other bytes"
+
+# A fault of a tape is named, and what stands before it is written.
+{ cat "$room/tape"; bytes 00000000000000000a000190; } | "$program" migrate >"$room/out" 2>"$room/err"
+expect "a moment that falls: status" 7 $?
+expect "a moment that falls: standard error" "tape -: back 256 0" "$(cat "$room/err")"
+cmp -s "$room/out" "$room/tape" || expect "a moment that falls" "the tape before it" "other bytes"
+"$program" migrate <"$room/tape" >/dev/full 2>"$room/err"
+expect "a tape to a full device: status" 4 $?
+
 [ "$wrong" -eq 0 ] && echo "the edges are as they should be"
 exit $wrong

@@ -1,7 +1,7 @@
 -- How far apart the messages of a list of marks stand in time. A message is complete: a short message, a System
 -- Exclusive message at its end, or a real-time message; a broken System Exclusive message is none. A stamp has 13 bits
--- of milliseconds (BLE-MIDI 1.0, "Timestamp"), so what is read of packets is a multiple of 8,192 ms earlier than what
--- was put. That it is the same multiple for all messages is what is kept of their moments.
+-- of milliseconds (BLE-MIDI 1.0, "Timestamp"), so where moments don't fall, a message is read of packets a multiple of
+-- 8,192 ms earlier than it was put. That it is the same multiple for all messages is what is kept of their moments.
 --
 --   puts_read parts          the marks of a reading with their moments
 --   message_moments puts     the moments of the messages

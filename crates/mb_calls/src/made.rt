@@ -1,4 +1,4 @@
-//! What is made for a check of the program.
+//! What is made for a self-test.
 
 use mb_make::Maker;
 

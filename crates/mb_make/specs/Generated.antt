@@ -1,4 +1,4 @@
--- The bytes that a check of the program is made of: units of a byte line, each drawn by a generator of pseudo-random
+-- The bytes that the self-test is made of: units of a byte line, each drawn by a generator of pseudo-random
 -- numbers. They are the project's own. What a unit is spelled as is the byte line's (MIDI 1.0 Detailed Specification
 -- 4.2, tables I to VI).
 --

@@ -1,4 +1,4 @@
-//! The bytes that a check of the program is made of: a list of units of a byte line, drawn by a generator of
+//! The bytes that the self-test is made of: a list of units of a byte line, drawn by a generator of
 //! pseudo-random numbers (`specs/Generated.antt`). Among them are running status, real-time bytes inside SysEx, and
 //! SysEx that the next unit breaks.
 //!

@@ -1,3 +1,4 @@
+pub mod End
 pub mod Selftest
 pub mod SumLaws
 pub mod SumOut

@@ -1,4 +1,4 @@
--- A check of the program on itself: bytes that it makes are converted through every carrier and back to a byte line,
+-- The self-test of the program: bytes that it makes are converted through every carrier and back to a byte line,
 -- and told of in four lines. It is the project's own.
 --
 --   last_written made         what is written in the end

@@ -1,6 +1,6 @@
 -- A list of bytes in few numbers: the project's own.
 --
---   mixed mix bytes     a number that every byte and its place changes, 32 bits
+--   mixed mix bytes     a number of 32 bits, made of each byte and its place
 --   counts_of den       how many messages, whole and broken SysEx and real-time messages are meant
 use Rattle.std.specs.Prelude.{ℕ, ◌+◌, ◌*◌, ◌%◌, ◌^◌, Bool, true, false, if◌then◌else◌, List, [], ◌∷◌, length}
 use Rattle.mb_stream.specs.Denotation.{Meant, Message, Syx, Broken, Denotation}

@@ -1,4 +1,4 @@
--- The four lines of a check of the program: the project's own.
+-- The four lines of a self-test: the project's own.
 --
 --   made_text n           `made N`: how many bytes were made
 --   written_text ns       `written N N N N`: how many bytes the writers of the specs behind the first wrote

@@ -18,7 +18,7 @@ const PIECE: usize = 512;
 
 /// Makes so many units of a byte line, the generator's first state given, converts them by `din usb:0 ble fw:0 din` and
 /// answers the four lines.
-pub fn selftest(alloc: Global, start: u32, count: u32) -> Lines
+pub(crate) fn lines_of(alloc: Global, start: u32, count: u32) -> Lines
     requires { count ≤ 1000000 }
     ensures { result.items ≡ selftest_text start count }
 {

@@ -1,4 +1,4 @@
-//! A law of the check. The function does nothing; what is proved is its contract.
+//! A law of the self-test. The function does nothing; what is proved is its contract.
 
 ghost use Rattle.std.specs.Prelude.{◌≡◌, ℕ, List};
 ghost use Rattle.mb_carrier.specs.Carrier.{den};

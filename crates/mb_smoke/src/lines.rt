@@ -9,7 +9,7 @@ use arrayvec::ArrayVec;
 use mb_denote::Counts;
 use mb_print::{Line, put_number, put_text};
 
-/// The four lines, in bytes. They have 220 at most.
+/// The four lines, in bytes. They have 221 at most.
 pub type Lines = ArrayVec<u8, 256>;
 
 /// Writes the four lines: `made N`, `written N N N N`, `items MSG SYX BROKEN RT` and `mix HHHHHHHH`.

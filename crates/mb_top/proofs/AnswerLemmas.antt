@@ -18,7 +18,7 @@ use Rattle.std.specs.Prelude.{Some}
 use Rattle.mb_frames.specs.declared.tape.TapeFault.{TapeFault}
 use Rattle.mb_top.specs.Answer.{Answered, DidAll, Moved, EndsAs, Says, faults_told, taken_off, added_to, code_of}
 use Rattle.mb_top.specs.Answer.{text_of, read_all}
-use Rattle.mb_top.specs.Ran.{Carried, RanWords, MayAnswer, MayAnswerWords, Faulted, written_of}
+use Rattle.mb_top.specs.Ran.{CommandRan, RanWords, MayAnswer, MayAnswerWords, Faulted, written_of}
 use Rattle.mb_top.specs.declared.status.Status.{Status}
 use Rattle.mb_top.specs.declared.status.Status.TheVariants.{Done, Noted, Usage, Cut, NoMemory, Stopped}
 use Rattle.mb_top.specs.declared.status.Stop.TheVariants.{ReadFault, Refused, TooLong, BadTape}
@@ -361,7 +361,7 @@ answered words limit before mid after reads reads_mid faults faults_mid faults_n
 -- a command that was carried out is what its words mean
 
 pub ran-words : (c : Command) (words : List (List ℕ)) (limit : ℕ) (before after : Contents) (status : Status) →
-    Means words c → MayAnswer c status → Carried c limit before after status → RanWords words limit before after status
+    Means words c → MayAnswer c status → CommandRan c limit before after status → RanWords words limit before after status
 ran-words c words limit before after status m may carried =
     let r = carried.ran in
     record {
@@ -600,7 +600,7 @@ tape_alone words status answer number may seven =
     let m = may.other (other_status status Usage (λ e. omega (arith, number, seven, e))) in
     means-tape words m.0 m.1 (subst (MayAnswer m.0) same.1 m.2)
 
--- a check of the program
+-- a self-test
 
 pub selftest-ends : (words : List (List ℕ)) (start count : ℕ) (status : Status) (answer : ℕ) →
     answer ≡ code_of status → MayAnswerWords words status → Means words (Selftesting start count) →

@@ -1,4 +1,4 @@
--- The four lines of a check of the program, or a front of them, were written.
+-- The four lines of a self-test, or a front of them, were written.
 use Rattle.std.proofs.Common.{◌≡◌, ℕ, true, false, List, [], refl, inl, sym, ◌∙◌, ap, arith}
 use Rattle.mb_message.specs.Front.{IsPart}
 use Rattle.mb_outside.specs.Contents.{Contents, after_read, after_write}
@@ -6,7 +6,7 @@ use Rattle.mb_outside.specs.ContentsLaws.{after_write-none, after_read-none}
 use Rattle.mb_outside.specs.TakingLaws.{part-front, part-differs}
 use Rattle.mb_smoke.specs.Selftest.{selftest_text}
 use Rattle.mb_words.specs.Command.{Selftesting}
-use Rattle.mb_top.specs.Ran.{Carried, written_of}
+use Rattle.mb_top.specs.Ran.{CommandRan, written_of}
 use Rattle.mb_top.specs.declared.status.Status.TheVariants.{Done, Stopped}
 use Rattle.mb_top.specs.declared.status.Stop.TheVariants.{Refused}
 
@@ -21,7 +21,7 @@ written-alone output before after e =
     ∙ sym (after_write-none 2 (after_write 1 output (after_read 0 0 before))))
 
 pub told-whole : (start count limit : ℕ) (text : List ℕ) (before after : Contents) → text ≡ selftest_text start count →
-    after ≡ after_write 1 text before → Carried (Selftesting start count) limit before after Done
+    after ≡ after_write 1 text before → CommandRan (Selftesting start count) limit before after Done
 told-whole start count limit text before after is wrote =
     record {
       ran = record {
@@ -47,7 +47,7 @@ told-whole start count limit text before after is wrote =
 
 pub told-front : (start count limit : ℕ) (text front : List ℕ) (before after : Contents) →
     text ≡ selftest_text start count → IsPart front text → after ≡ after_write 1 front before →
-    Carried (Selftesting start count) limit before after (Stopped Refused)
+    CommandRan (Selftesting start count) limit before after (Stopped Refused)
 told-front start count limit text front before after is part wrote =
     record {
       ran = record {

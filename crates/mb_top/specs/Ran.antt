@@ -1,7 +1,7 @@
 -- Inside the top call: what a command did before its answer was said.
 --
 --   Ran c ..               a command read these bytes and wrote those, and changed nothing else
---   Carried c ..           the same, and a command that reads nothing read none
+--   CommandRan c ..           the same, and a command that reads nothing read none
 --   RanEnd c bytes ..      the same at the end of an input of which what is known was written before
 --   RanWords words ..      the same for words, which may mean no command
 --   Faulted ..             a fault of reading or writing came exactly where the status tells of one
@@ -30,7 +30,7 @@ pub record Ran (c : Command) (limit : ℕ) (before after : Contents) (status : S
   pub within : length input ≤ limit
   pub ends : EndsAs c limit (before.left 0) input output tally status
 
-pub record Carried (c : Command) (limit : ℕ) (before after : Contents) (status : Status) : Type 0 where
+pub record CommandRan (c : Command) (limit : ℕ) (before after : Contents) (status : Status) : Type 0 where
   pub ran : Ran c limit before after status
   pub unread : reads_from c 0 ≡ false → ran.input ≡ []
 

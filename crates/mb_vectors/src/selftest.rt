@@ -1,9 +1,9 @@
-//! The check of the program on itself: its lines, its taker of sums, and a write that fails.
+//! The self-test of the program: its lines, its taker of sums, and a write that fails.
 
-use crate::row::{Row, Setting, Told, WHOLE, run, run_table};
+use crate::row::{Row, Setting, Told, WHOLE, desk, run, run_table};
 use mb_denote::Counts;
 use mb_outside::Out;
-use mb_smoke::SumOut;
+use mb_smoke::{SmokeEnd, SumOut, selftest};
 
 const CHECKS: &[Told] = &[
     (
@@ -66,6 +66,15 @@ fn a_front_of_the_lines_is_written(rt: HostRuntime) {
     run(&rt, rt.alloc(), &UNWRITTEN, failing);
     let small = Setting { room: 6, ..WHOLE };
     run(&rt, rt.alloc(), &WRITTEN_IN_PART, small);
+}
+
+/// The call itself, on a desk.
+#[test]
+fn the_lines_go_to_standard_output(rt: HostRuntime) {
+    let mut desk = desk(&rt, rt.alloc(), &[], WHOLE);
+    assert!(rt; selftest(rt.alloc(), 0, 1, &mut desk) == SmokeEnd::Done);
+    let lines = b"made 3\nwritten 4 7 126 3\nitems 1 0 0 0\nmix 00036449\n";
+    assert!(rt; desk.is_written(1, lines));
 }
 
 /// A message, a whole SysEx with a clock in it, and one that stays open.

@@ -1,14 +1,13 @@
-use Rattle.std.proofs.Common.{◌∙◌}
+use Rattle.std.proofs.Common.{refl}
 use Rattle.mb_top.proofs.SelftestLemmas.{told-whole, told-front}
 use Rattle.mb_top.proofs.stream.tell_selftest.Goals as goal
 
-pub returns-in-Ok-clause-ran : goal.returns-in-Ok-clause-ran
-returns-in-Ok-clause-ran g c = λ tells limit.
-    told-whole c.args.start c.args.count limit _ _ _ (c.as_slice.ensures.value ∙ c.selftest-lines.ensures)
-    (c.in-Ok.ensures.wrote.contents_are tells)
+pub returns-in-Done-clause-ran : goal.returns-in-Done-clause-ran
+returns-in-Done-clause-ran g c = λ tells limit.
+    told-whole c.args.start c.args.count limit _ _ _ refl
+    ((c.in-Done.ensures.done refl).contents_are tells)
 
-pub returns-in-Err-clause-ran : goal.returns-in-Err-clause-ran
-returns-in-Err-clause-ran g c = λ tells limit.
-    let part = c.in-Err.ensures.part in
-    told-front c.args.start c.args.count limit _ part.0 _ _ (c.as_slice.ensures.value ∙ c.selftest-lines.ensures)
-    part.1 (part.2.contents_are tells)
+pub returns-in-WriteFault-clause-ran : goal.returns-in-WriteFault-clause-ran
+returns-in-WriteFault-clause-ran g c = λ tells limit.
+    let part = c.in-WriteFault.ensures.part refl in
+    told-front c.args.start c.args.count limit _ part.0 _ _ refl part.1 (part.2.contents_are tells)
