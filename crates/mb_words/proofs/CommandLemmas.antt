@@ -1,6 +1,6 @@
 -- Words are one command at most: names differ, and each command's words give its parts.
 use Rattle.std.proofs.Common.{◌≡◌, ℕ, suc, Bool, true, false, if◌then◌else◌, List, [], ◌∷◌, ◌++◌, length, refl, sym}
-use Rattle.std.proofs.Common.{◌∙◌, ap, subst, arith, codes}
+use Rattle.std.proofs.Common.{◌∙◌, ◌⊎◌, inl, inr, ap, subst, arith, codes}
 use Rattle.std.specs.Str.{bytes_eq}
 use Rattle.std.proofs.lemmas.Fmt.{decimal_injective}
 use Rattle.mb_carrier.specs.Word.{IsWordOf, IsSpec, AreSpecs}
@@ -145,7 +145,7 @@ one_of_specs words c d h k m n =
     ∙ (ap (λ (t : Bool). rebuilt (name_of d) t (specs_of c)) behind.0
     ∙ (ap (λ (specs : List Spec). rebuilt (name_of d) (asks_tally d) specs) behind.1 ∙ again d k)))
 
--- a check of the program
+-- a self-test
 
 pub selftest_letter : (c : Command) → HasSpecs c → name_of c ≡ codes "selftest" → ⊥
 selftest_letter (Converting tally first between last) h e =
@@ -170,11 +170,11 @@ same_selftest words start count other others m n =
     (heads _ _ _ _ (tails _ _ _ _ behind)) in
     ap (λ (n : ℕ). Selftesting n count) starts ∙ ap (λ (n : ℕ). Selftesting other n) counts
 
--- a command has specs, or is a check of the program
-abbrev IsCheck : Command → Type 0
-IsCheck c = (start : ℕ) × (count : ℕ) × (c ≡ Selftesting start count)
+-- a command has specs, or is a self-test
+abbrev IsSelftest : Command → Type 0
+IsSelftest c = (start : ℕ) × (count : ℕ) × (c ≡ Selftesting start count)
 
-form : (c : Command) → HasSpecs c ⊎ IsCheck c
+form : (c : Command) → HasSpecs c ⊎ IsSelftest c
 form (Converting tally first between last) = inl tt
 form (Listing traced s) = inl tt
 form Migrating = inl tt
@@ -183,7 +183,7 @@ form (Selftesting start count) = inr (start, count, refl)
 pub one_command : (words : List (List ℕ)) (c d : Command) → Means words c → Means words d → c ≡ d
 one_command words c d m n = by_form (form c) (form d)
   where
-    by_form : (HasSpecs c ⊎ IsCheck c) → (HasSpecs d ⊎ IsCheck d) → c ≡ d
+    by_form : (HasSpecs c ⊎ IsSelftest c) → (HasSpecs d ⊎ IsSelftest d) → c ≡ d
     by_form (inl h) (inl k) = one_of_specs words c d h k m n
     by_form (inl h) (inr k) =
         absurd (no_selftest words c k.0 k.1 h m (subst (λ (x : Command). Means words x) k.2 n))

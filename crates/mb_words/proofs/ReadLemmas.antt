@@ -87,7 +87,7 @@ no_name words w Migrating e convert trace check migrate selftest m = migrate (fi
 no_name words w (Selftesting start count) e convert trace check migrate selftest m =
     selftest (first_word words w (Selftesting start count) m e)
 
--- a check of the program
+-- a self-test
 
 pub selftest-means : (words : List (List ℕ)) (v w : List ℕ) (start count : ℕ) → length words ≡ 3 →
     slice_get words 0 ≡ Some (codes "selftest") → slice_get words 1 ≡ Some v → slice_get words 2 ≡ Some w →

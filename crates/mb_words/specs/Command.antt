@@ -1,7 +1,7 @@
 -- What the words of a command line mean: the project's own.
 --
 --   Command                 a conversion by two or more specs, the listing of a recording, a tape that is written once
---                           more in the second form, or a check of the program
+--                           more in the second form, or a self-test
 --   name_of c               its first word
 --   asks_tally c            whether it is asked how many bytes cross each spec
 --   options_of c            the words between its name and its specs; numbers are in decimal, without leading zeros
@@ -53,7 +53,7 @@ AreWordsOf [] (s ∷ specs) = ⊥
 AreWordsOf (word ∷ words) [] = ⊥
 AreWordsOf (word ∷ words) (s ∷ specs) = IsWordOf word s × AreWordsOf words specs
 
--- a chain has ten specs at most; a check starts below 2^31 and makes a million units at most
+-- a chain has ten specs at most; a self-test starts below 2^31 and makes a million units at most
 abbrev pub IsBuilt : Command → Type 0
 IsBuilt (Converting tally first between last) = length between ≤ 8
 IsBuilt (Listing traced s) = Unit {0}

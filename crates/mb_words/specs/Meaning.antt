@@ -2,7 +2,7 @@
 --
 --   place_of_specs tally    the place of a conversion's first spec among its words
 --   meaning c               the command of the definitions
---   IsWithin c              its specs are within their carriers' numbers, a chain's are two to ten, and a check's
+--   IsWithin c              its specs are within their carriers' numbers, a chain's are two to ten, and a self-test's
 --                           numbers within theirs
 use Rattle.std.specs.Prelude.{ℕ, ◌<◌, ◌≤◌, ◌^◌, Bool, if◌then◌else◌, true, false, List, [], ◌∷◌, length}
 use Rattle.mb_carrier.specs.Word.{IsSpec, AreSpecs}
