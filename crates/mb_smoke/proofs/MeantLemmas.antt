@@ -39,39 +39,39 @@ read-closed r (b ∷ bs) g =
 -- the items of marks that suit, and behind which no SysEx is open
 record Items (o : Option (List ℕ)) (ms : List Sign) : Type 0 where
   messages : how_many is_message (items_from o ms) ≡ number_of is_short_sign ms
-  whole : how_many is_whole_sysex (items_from o ms) ≡ number_of is_end ms
+  complete : how_many is_whole_sysex (items_from o ms) ≡ number_of is_end ms
   broken : how_many is_broken_sysex (items_from o ms) ≡ number_of is_abort ms
 
 items-counted : (o : Option (List ℕ)) (ms : List Sign) → Suit (is_some o) ms → open_all (is_some o) ms ≡ false →
     Items o ms
-items-counted None [] s c = record { messages = refl; whole = refl; broken = refl }
+items-counted None [] s c = record { messages = refl; complete = refl; broken = refl }
 items-counted (Some ds) [] s c = cc
 items-counted None (ShortSign st a b ∷ ms) s c =
     let i = items-counted None ms s.1 c in
-    record { messages = omega (arith, i.messages); whole = omega (arith, i.whole); broken = omega (arith, i.broken) }
+    record { messages = omega (arith, i.messages); complete = omega (arith, i.complete); broken = omega (arith, i.broken) }
 items-counted (Some ds) (ShortSign st a b ∷ ms) s c = absurd s.0
 items-counted None (RtSign b ∷ ms) s c =
     let i = items-counted None ms s.1 c in
-    record { messages = omega (arith, i.messages); whole = omega (arith, i.whole); broken = omega (arith, i.broken) }
+    record { messages = omega (arith, i.messages); complete = omega (arith, i.complete); broken = omega (arith, i.broken) }
 items-counted (Some ds) (RtSign b ∷ ms) s c =
     let i = items-counted (Some ds) ms s.1 c in
-    record { messages = omega (arith, i.messages); whole = omega (arith, i.whole); broken = omega (arith, i.broken) }
+    record { messages = omega (arith, i.messages); complete = omega (arith, i.complete); broken = omega (arith, i.broken) }
 items-counted None (OpenSign ∷ ms) s c =
     let i = items-counted (Some []) ms s.1 c in
-    record { messages = omega (arith, i.messages); whole = omega (arith, i.whole); broken = omega (arith, i.broken) }
+    record { messages = omega (arith, i.messages); complete = omega (arith, i.complete); broken = omega (arith, i.broken) }
 items-counted (Some ds) (OpenSign ∷ ms) s c = absurd s.0
 items-counted None (ByteSign b ∷ ms) s c = absurd s.0
 items-counted (Some ds) (ByteSign b ∷ ms) s c =
     let i = items-counted (Some (ds ++ b ∷ [])) ms s.1 c in
-    record { messages = omega (arith, i.messages); whole = omega (arith, i.whole); broken = omega (arith, i.broken) }
+    record { messages = omega (arith, i.messages); complete = omega (arith, i.complete); broken = omega (arith, i.broken) }
 items-counted None (EndSign ∷ ms) s c = absurd s.0
 items-counted (Some ds) (EndSign ∷ ms) s c =
     let i = items-counted None ms s.1 c in
-    record { messages = omega (arith, i.messages); whole = omega (arith, i.whole); broken = omega (arith, i.broken) }
+    record { messages = omega (arith, i.messages); complete = omega (arith, i.complete); broken = omega (arith, i.broken) }
 items-counted None (AbortSign ∷ ms) s c = absurd s.0
 items-counted (Some ds) (AbortSign ∷ ms) s c =
     let i = items-counted None ms s.1 c in
-    record { messages = omega (arith, i.messages); whole = omega (arith, i.whole); broken = omega (arith, i.broken) }
+    record { messages = omega (arith, i.messages); complete = omega (arith, i.complete); broken = omega (arith, i.broken) }
 
 realtimes-counted : (o : Bool) (n : ℕ) (ms : List Sign) → length (realtimes_from o n ms) ≡ number_of is_rt ms
 realtimes-counted o n [] = refl
@@ -90,7 +90,7 @@ counts-equal : (c : Counts) (ms : List Sign) → Counted c ms → Items None ms 
     length (realtimes_from false 0 ms) ≡ number_of is_rt ms → c ≡ counts_of (denotation ms)
 counts-equal c ms k i r =
     ap (λ n. counts_with n c.syx c.broken c.rt) (k.messages ∙ sym i.messages)
-    ∙ (ap (λ n. counts_with (how_many is_message (items_from None ms)) n c.broken c.rt) (k.whole ∙ sym i.whole)
+    ∙ (ap (λ n. counts_with (how_many is_message (items_from None ms)) n c.broken c.rt) (k.complete ∙ sym i.complete)
     ∙ (ap (λ n. counts_with (how_many is_message (items_from None ms)) (how_many is_whole_sysex (items_from None ms))
     n c.rt)
     (k.broken_off ∙ sym i.broken)

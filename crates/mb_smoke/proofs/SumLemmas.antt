@@ -137,7 +137,7 @@ counted-few : (counts : Counts) (marks : List Sign) → Counted counts marks →
 counted-few counts marks h few =
     record {
       msg = omega (arith, h.messages, number_of-few is_short_sign marks, few);
-      syx = omega (arith, h.whole, number_of-few is_end marks, few);
+      syx = omega (arith, h.complete, number_of-few is_end marks, few);
       broken = omega (arith, h.broken_off, number_of-few is_abort marks, few);
       rt = omega (arith, h.realtimes, number_of-few is_rt marks, few);
     }

@@ -5,9 +5,9 @@
 mod conversion;
 pub mod laws;
 mod lines;
-mod selftest;
+mod on_desk;
 mod sum_out;
 
 pub use lines::Lines;
-pub use selftest::{SmokeEnd, selftest};
+pub use on_desk::{SmokeEnd, selftest};
 pub use sum_out::SumOut;

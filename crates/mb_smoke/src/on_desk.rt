@@ -1,13 +1,13 @@
 //! The self-test on a desk.
 
-ghost use Rattle.std.specs.Prelude.{◌≡◌, ℕ, ◌×◌, ◌≤◌, false, List, IsTrue};
+ghost use Rattle.std.specs.Prelude.{◌≡◌, ℕ, ◌≤◌, false, List, IsTrue};
 ghost use Rattle.mb_message.specs.Front.{IsPart};
 ghost use Rattle.mb_outside.specs.Cause.{Rose};
 ghost use Rattle.mb_outside.specs.Contents.{is_writable};
 ghost use Rattle.mb_outside.specs.Taking.{Wrote};
 ghost use Rattle.mb_smoke.specs.Selftest.{selftest_text};
 ghost use Rattle.mb_smoke.specs.End.{wants_memory};
-ghost use Rattle.mb_smoke.specs.declared.selftest.SmokeEnd.TheVariants as end;
+ghost use Rattle.mb_smoke.specs.declared.on_desk.SmokeEnd.TheVariants as end;
 
 use crate::conversion::lines_of;
 use mb_message::Memory;
