@@ -35,6 +35,7 @@ pub fn selftest<D: Desk>(alloc: Global, start: u32, count: u32, desk: &mut D) ->
     ensures part { result ≡ end.WriteFault → (front : List ℕ) × IsPart front (selftest_text start count) ×
         Wrote D.tells D.contents D.read_faults 1 desk.old front desk.new }
     ensures never { wants_memory result ≡ false }
+    ensures later { D.write_faults desk.old ≤ D.write_faults desk.new }
     ensures cause { result ≡ end.WriteFault → Rose (D.write_faults desk.old) (D.write_faults desk.new) }
     ensures sound { result ≡ end.Done → D.write_faults desk.new ≡ D.write_faults desk.old }
     ensures read_faults { D.read_faults desk.new ≡ D.read_faults desk.old }

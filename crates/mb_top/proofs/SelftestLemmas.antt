@@ -35,6 +35,7 @@ told-whole start count limit text before after is wrote =
           record {
             all = λ reads. absurd (not-read reads);
             below = λ reads. absurd (not-read reads);
+            sound = refl;
             output_is = is;
             tally_is = refl;
           },

@@ -18,7 +18,7 @@ use Rattle.mb_words.specs.Command.{Command, Converting, Listing, Migrating, Self
 use Rattle.mb_top.specs.Output.{fault_of, output_of, is_whole, live_output_of, tally_of}
 use Rattle.mb_top.specs.Job.{JobFed, JobHalted, JobEnded, JobEndHalted, JobTold, JobTellHalted, Remarked}
 use Rattle.mb_top.specs.Answer.{EndsAs, DidAll, all_but_last, PIECE}
-use Rattle.mb_top.specs.Ran.{Ran, RanEnd, at_end, written_of}
+use Rattle.mb_top.specs.Ran.{Ran, RanEnd, MayAnswer, at_end, written_of}
 use Rattle.mb_top.specs.declared.status.Status.{Status}
 use Rattle.mb_top.specs.declared.status.Status.TheVariants.{Stopped}
 use Rattle.mb_top.specs.declared.status.Stop.TheVariants.{ReadFault, Refused, TooLong, BadTape}
@@ -177,6 +177,7 @@ pub may-bad_tape : (c : Command) (input : List ℕ) (f : TapeFault) → fault_of
 may-bad_tape (Converting tally first between last) input f e = cc
 may-bad_tape (Listing traced s) input f e = cc
 may-bad_tape Migrating input f e = refl
+may-bad_tape (Selftesting start count) input f e = cc
 
 -- the end was read
 pub at-end : (c : Command) (before old now : Contents) (bytes buffer : List ℕ) (count : ℕ) →
