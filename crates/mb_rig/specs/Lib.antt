@@ -1,0 +1,2 @@
+pub mod RigText
+pub mod RigAnswer
