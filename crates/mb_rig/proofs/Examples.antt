@@ -1,5 +1,5 @@
 -- The definitions compute.
-use Rattle.std.proofs.Common.{◌≡◌, [], ◌∷◌, ◌++◌, refl, codes, List, ℕ, true, false, Some, None}
+use Rattle.std.proofs.Common.{◌≡◌, [], ◌∷◌, ◌++◌, refl, codes, List, true, false, Some, None}
 use Rattle.std.specs.Fmt.{digits}
 use Rattle.mb_carrier.specs.declared.spec.Spec.TheVariants as spec
 use Rattle.mb_rig.specs.declared.fault.Why.TheVariants as why

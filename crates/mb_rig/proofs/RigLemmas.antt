@@ -1,17 +1,16 @@
 -- The lines of a text one by one.
-use Rattle.std.proofs.Common.{◌≡◌, ◌⊎◌, inl, inr, ℕ, ◌+◌, ◌≤◌, Bool, true, false, Option, Some, None, List, [], ◌∷◌}
-use Rattle.std.proofs.Common.{refl, ap, sym, ◌∙◌, arith, length, Result, Ok, Err, IfErr}
+use Rattle.std.proofs.Common.{◌≡◌, inl, inr, ℕ, ◌+◌, ◌≤◌, Bool, true, false, None, List, ◌∷◌}
+use Rattle.std.proofs.Common.{ap, sym, ◌∙◌, arith, length, Result, Ok, Err, IfErr}
 use Rattle.std.specs.Prelude.{if◌then◌else◌, nat_lt, nat_le, ◌&&◌}
 use Rattle.std.proofs.lemmas.Bool.Decides.{nat_tests}
 use Rattle.mb_text.specs.Text.{lines}
-use Rattle.mb_rig.specs.declared.fault.Why.{Why}
 use Rattle.mb_rig.specs.declared.fault.Why.TheVariants as why
 use Rattle.mb_rig.specs.declared.fault.RigFault.{RigFault}
 use Rattle.mb_rig.specs.declared.fault.RigFault.TheVariants as fault
 use Rattle.mb_rig.specs.RigText.{Setup, no_setup, Statement, Remark, Link, Outlet, Route, Unfit, statement, why_not}
 use Rattle.mb_rig.specs.RigText.{with_line, Outcome, Faulty, line_then, rig_from, rig_of, most_text, is_remark}
 use Rattle.mb_rig.specs.RigText.{is_right}
-use Rattle.mb_rig.specs.RigText.{begins_right, wants_memory}
+use Rattle.mb_rig.specs.RigText.{begins_right}
 use Rattle.mb_rig.specs.RigAnswer.{Refuses, IsRefused, IsFaulty, Begun}
 
 pub line-added : (n : ℕ) (s now : Setup) (ls rest : List (List ℕ)) (line : List ℕ) (says : Statement) →

@@ -143,6 +143,27 @@ spec-read word r found only = named-is word_of all_specs (long_word word) r
     by None e f = inl e
     by (Some s) e f = inr (s, e, long-word word s f, spec-stands s (word-is_spec word s f))
 
+named-stands : {A : Type 0} (word_by : A → List ℕ) (xs : List A) (word : List ℕ) (y : A) →
+    named word_by xs word ≡ Some y → Stands xs y
+named-stands word_by [] word y e = absurd (none-some y e)
+  where
+    none-some : {A : Type 0} (y : A) → None ≡ Some y → ⊥
+    none-some y e = cc
+named-stands {A} word_by (x ∷ xs) word y e =
+    by (bytes_eq (word_by x) word) e (λ f. named-stands word_by xs word y f)
+  where
+    same : {x y : A} → Some x ≡ Some y → y ≡ x
+    same e = cc
+
+    by : (t : Bool) → (if t then Some x else named word_by xs word) ≡ Some y →
+        (named word_by xs word ≡ Some y → Stands xs y) → (y ≡ x) ⊎ Stands xs y
+    by true f rest = inl (same f)
+    by false f rest = inr (rest f)
+
+pub spec_of-is : (word : List ℕ) (s : Spec) → spec_of word ≡ Some s → IsSpec s
+unfolding spec_of
+spec_of-is word s e = stands-spec s (named-stands word_of all_specs (long_word word) s e)
+
 -- tracks
 
 map-id : (xs : List ℕ) → map (λ n. n) xs ≡ xs

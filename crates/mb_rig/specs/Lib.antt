@@ -1,2 +1,3 @@
 pub mod RigText
 pub mod RigAnswer
+pub mod Right

@@ -4,7 +4,7 @@
 --   Refuses text fault         a fault of the text, or of memory where memory is wanted
 --   IsRefused n setup s fault  of one line
 --   Begun all rest setup       a line was added, or none yet
-use Rattle.std.specs.Prelude.{◌≡◌, ◌⊎◌, ℕ, Bool, true, false, ◌&&◌, nat_le, List, Option, Some, None}
+use Rattle.std.specs.Prelude.{◌≡◌, ◌⊎◌, ℕ, Bool, true, false, ◌&&◌, nat_le, List, Some, None}
 use Rattle.std.specs.List.{list_all}
 use Rattle.mb_rig.specs.RigText.{Statement, Remark, Link, Outlet, Route, Unfit, Setup, no_setup, Outcome, Faulty}
 use Rattle.mb_rig.specs.RigText.{rig_of, why_not, is_remark, begins_right, wants_memory}

@@ -14,6 +14,7 @@ use Rattle.std.specs.Prelude.{List, [], ◌∷◌, ◌++◌, length, map, positi
 use Rattle.std.specs.List.{list_any, list_all, range_with_len}
 use Rattle.mb_text.specs.Text.{lines, words, is_printed}
 use Rattle.mb_carrier.specs.Word.{word_of}
+use Rattle.mb_merge.specs.Opening.{stands_in}
 use Rattle.mb_carrier.specs.declared.spec.Spec.{Spec}
 use Rattle.mb_carrier.specs.declared.spec.Spec.TheVariants as spec
 use Rattle.mb_rig.specs.declared.fault.Why.{Why}
@@ -154,9 +155,6 @@ port_why (Some s) name stands count =
 
 abbrev pub place_of : (name : List ℕ) → List RigPort → Option ℕ
 place_of name ps = position (is_named name) ps
-
-abbrev pub stands_in : (ℕ × ℕ) → List (ℕ × ℕ) → Bool
-stands_in r routes = list_any (λ q. (q.0 == r.0) && (q.1 == r.1)) routes
 
 abbrev pub route_why : List (ℕ × ℕ) → (from to : Option ℕ) → Option Why
 route_why routes None to = Some why.Port

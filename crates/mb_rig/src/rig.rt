@@ -5,7 +5,9 @@ ghost use Rattle.std.specs.Prelude.{OnOk, ◌+◌, vec_len};
 ghost use Rattle.std.specs.List.{list_all, list_any};
 ghost use Rattle.mb_rig.specs.RigText.{Link, Outlet, Route, Right, Faulty, rig_of, why_not, with_line, port_why};
 ghost use Rattle.mb_rig.specs.RigText.{spec_of, is_name, is_name_byte, has_name, has_file, has_track, place_of};
-ghost use Rattle.mb_rig.specs.RigText.{stands_in, no_setup, ended_rig};
+ghost use Rattle.mb_rig.specs.RigText.{no_setup, ended_rig};
+ghost use Rattle.mb_rig.specs.Right.{IsRig};
+ghost use Rattle.mb_merge.specs.Opening.{stands_in};
 ghost use Rattle.mb_rig.specs.RigAnswer.{are_printed, has_printed, line_seen, Refuses, IsRefused, IsMemory};
 ghost use Rattle.mb_rig.specs.RigAnswer.{IsFaulty};
 
@@ -48,6 +50,7 @@ impl Rig {
     /// first line that says something isn't faulty.
     pub fn read(alloc: Global, text: &[u8]) -> Result<Rig, RigFault>
         ensures rig { IfOk result (λ rig. rig_of text.now ≡ Right rig) }
+        ensures right { IfOk result IsRig }
         ensures refused { IfErr result (Refuses text.now) }
     {
         if text.len() > MOST_TEXT {

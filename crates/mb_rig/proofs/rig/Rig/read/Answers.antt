@@ -1,9 +1,10 @@
-use Rattle.std.proofs.Common.{◌≡◌, ◌+◌, ◌≤◌, ◌<◌, length, ap, sym, subst, ◌∙◌, arith, inl, refl, IfOk}
+use Rattle.std.proofs.Common.{◌≡◌, ap, sym, subst, ◌∙◌, arith, inl, refl, IfOk}
 use Rattle.mb_text.specs.Text.{lines}
-use Rattle.mb_rig.specs.RigText.{Right, Outcome, ended_rig, rig_from, rig_of, no_setup, begins_right}
+use Rattle.mb_rig.specs.RigText.{Right, Outcome, ended_rig, rig_from, rig_of}
 use Rattle.mb_rig.specs.RigAnswer.{line_seen}
 use Rattle.mb_rig.proofs.LineLemmas.{statement-printed}
 use Rattle.mb_rig.proofs.RigLemmas.{line-added, begun-added, line-refused, rig-begins, ended-refused}
+use Rattle.mb_rig.proofs.RightLemmas.{read-right}
 use Rattle.mb_rig.proofs.rig.Rig.read.Goals as goal
 
 pub loop-line-init : goal.loop-line-init
@@ -57,3 +58,11 @@ returns-clause-refused c =
     in
     ended-refused c.args.text.now (ended_rig c.loop-line.number c.loop-line.rig) c.ended.result whole
     c.ended.ensures.refused
+
+pub returns-clause-right : goal.returns-clause-right
+returns-clause-right c =
+    let whole : ended_rig c.loop-line.number c.loop-line.rig ≡ rig_of c.args.text.now =
+    sym (c.loop-line.invariant.whole ∙ ap (rig_from c.loop-line.number c.loop-line.rig) c.in_default.ensures.none)
+    in
+    read-right c.args.text.now c.ended.result
+    (subst (λ (o : Outcome). IfOk c.ended.result (λ rig. o ≡ Right rig)) whole c.ended.ensures.rig)
