@@ -33,6 +33,8 @@ mod outside;
 #[cfg(test)]
 mod print;
 #[cfg(test)]
+mod rig;
+#[cfg(test)]
 mod tapes;
 #[cfg(test)]
 mod text;

@@ -1,0 +1,5 @@
+pub mod WordLemmas
+pub mod LineLemmas
+pub mod RigLemmas
+pub mod RightLemmas
+mod Examples

@@ -1,0 +1,3 @@
+pub mod RigText
+pub mod RigAnswer
+pub mod Right

@@ -1,0 +1,11 @@
+//! Rigs: which ports of which tapes are merged into which outs. So far their text.
+#![tactic(auto)]
+
+mod fault;
+mod line;
+mod name;
+mod rig;
+
+pub use fault::{RigFault, Why};
+pub use name::{Name, Port};
+pub use rig::Rig;
