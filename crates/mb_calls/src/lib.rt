@@ -19,6 +19,8 @@ mod fire_writer;
 #[cfg(test)]
 mod frames;
 #[cfg(test)]
+mod guard;
+#[cfg(test)]
 mod lines;
 #[cfg(test)]
 mod marks;
