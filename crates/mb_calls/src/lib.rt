@@ -13,6 +13,8 @@ mod denote;
 #[cfg(test)]
 mod din;
 #[cfg(test)]
+mod filter;
+#[cfg(test)]
 mod fire_reader;
 #[cfg(test)]
 mod fire_writer;

@@ -1,0 +1,6 @@
+pub mod CountLemmas
+pub mod ReadLemmas
+pub mod MapLemmas
+pub mod MappedLaw
+pub mod SuitLemmas
+mod Examples
