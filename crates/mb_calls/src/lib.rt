@@ -13,11 +13,15 @@ mod denote;
 #[cfg(test)]
 mod din;
 #[cfg(test)]
+mod filter;
+#[cfg(test)]
 mod fire_reader;
 #[cfg(test)]
 mod fire_writer;
 #[cfg(test)]
 mod frames;
+#[cfg(test)]
+mod guard;
 #[cfg(test)]
 mod lines;
 #[cfg(test)]

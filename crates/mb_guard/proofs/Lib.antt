@@ -1,0 +1,5 @@
+pub mod Heard
+pub mod Sounded
+pub mod Silence
+pub mod Followed
+mod Examples
