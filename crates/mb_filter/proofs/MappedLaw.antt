@@ -8,7 +8,7 @@ use Rattle.mb_stream.specs.Denotation.{realtimes_from, denotation}
 use Rattle.mb_filter.specs.declared.rule.Rule.{Rule}
 use Rattle.mb_filter.specs.declared.rule.Action.{Action}
 use Rattle.mb_filter.specs.declared.rule.Action.TheVariants as act
-use Rattle.mb_filter.specs.Mapped.{if_short, on_channel, acted, decided, kind_of_status, channel_of, mapped_short}
+use Rattle.mb_filter.specs.Mapped.{if_short, on_channel, acted, decided, mapped_short}
 use Rattle.mb_filter.specs.Mapped.{keeps_sysex, keeps_realtime, kept_if, as_mark, mapped_marks}
 use Rattle.mb_filter.specs.Mapped.{meant_short, mapped_item, mapped_items, counting, kept_of, mapped_rts}
 use Rattle.mb_filter.specs.Mapped.{mapped}
@@ -37,7 +37,7 @@ acted-is (act.Up n) s a b = choice-is _ s (a + n) b
 acted-is (act.Down n) s a b = choice-is _ s _ b
 
 pub mapped_short-is : (rules : List Rule) (s a b : ℕ) → ShortOrNone (mapped_short rules s a b)
-mapped_short-is rules s a b = acted-is (decided rules (kind_of_status s) (channel_of s)) s a b
+mapped_short-is rules s a b = acted-is (decided rules s) s a b
 
 -- items
 
@@ -72,7 +72,7 @@ items-mapped : (rules : List Rule) (k : Bool) → keeps_sysex rules ≡ k → (o
     items_from (held k o) (mapped_marks rules ms) ≡ mapped_items rules (items_from o ms)
 items-mapped rules k e o [] = left-items k o rules e
 items-mapped rules k e o (ShortSign s a b ∷ ms) =
-    short-items (mapped_short rules s a b) (acted-is (decided rules (kind_of_status s) (channel_of s)) s a b)
+    short-items (mapped_short rules s a b) (acted-is (decided rules s) s a b)
     (held k o) (mapped_marks rules ms) ∙
     ap (λ z. meant_short (mapped_short rules s a b) ++ z) (items-mapped rules k e o ms)
 items-mapped rules k e o (RtSign b ∷ ms) =

@@ -9,7 +9,7 @@ use Rattle.mb_stream.proofs.StandingLemmas.{both, Suited, Suited-from_suited, su
 use Rattle.mb_filter.specs.declared.rule.Rule.{Rule}
 use Rattle.mb_filter.specs.declared.rule.Action.{Action}
 use Rattle.mb_filter.specs.declared.rule.Action.TheVariants as act
-use Rattle.mb_filter.specs.Mapped.{if_short, on_channel, acted, decided, kind_of_status, channel_of, mapped_short}
+use Rattle.mb_filter.specs.Mapped.{if_short, on_channel, acted, decided, mapped_short}
 use Rattle.mb_filter.specs.Mapped.{keeps_sysex, keeps_realtime, kept_if, as_mark, mapped_marks}
 use Rattle.mb_filter.proofs.MappedLaw.{ShortOrNone, mapped_short-is, none-opened}
 
@@ -115,7 +115,7 @@ mapped-valid rules [] h = refl
 mapped-valid rules (ShortSign s a b ∷ ms) h =
     let each = both (is_short s a b) _ h in
     short-valid (mapped_short rules s a b)
-    (acted-valid (decided rules (kind_of_status s) (channel_of s)) s a b each.0) (mapped_marks rules ms)
+    (acted-valid (decided rules s) s a b each.0) (mapped_marks rules ms)
     (mapped-valid rules ms each.1)
 mapped-valid rules (RtSign b ∷ ms) h =
     let each = both (is_valid (RtSign b)) _ h in

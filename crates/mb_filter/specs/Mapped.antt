@@ -2,13 +2,14 @@
 -- "Channel Voice Messages" and "System Messages". The first rule of a message's kind and channel decides; without one
 -- it is kept.
 --
---   decided rules k c        what is done with a message of a kind, on a channel counted from 1, if it has one
+--   is_of kind status        the statuses of a kind's messages
+--   decided rules status     what is done with a message of a status, a SysEx's being F0
 --   mapped_short rules ..    a short message behind the rules: none where it is dropped
 --   mapped_items rules is    items behind the rules
 --   mapped_rts rules is rs   real-time messages, each with how many kept messages and whole SysEx ended before it
 --   mapped_sign rules m      a mark: all marks of a SysEx that is dropped are gone
 --   mapped_marks rules ms    a list of marks
-use Rattle.std.specs.Prelude.{ℕ, zero, suc, ◌+◌, ◌-◌, ◌%◌, Bool, true, false, ◌&&◌, ◌==◌, not, nat_lt, nat_le}
+use Rattle.std.specs.Prelude.{ℕ, zero, suc, ◌+◌, ◌-◌, ◌%◌, Bool, true, false, ◌&&◌, ◌||◌, ◌==◌, not, nat_lt, nat_le}
 use Rattle.std.specs.Prelude.{if◌then◌else◌, List, [], ◌∷◌, flat_map, Option, Some, None}
 use Rattle.mb_message.specs.Bytes.{is_channel, is_short}
 use Rattle.mb_message.specs.Signs.{Sign, ShortSign, RtSign}
@@ -20,48 +21,30 @@ use Rattle.mb_filter.specs.declared.rule.Action.{Action}
 use Rattle.mb_filter.specs.declared.rule.Action.TheVariants.{Keep, Drop, Channel, Up, Down}
 use Rattle.mb_filter.specs.declared.rule.Rule.{Rule}
 
--- 8n, 9n and An; Bn; Cn; Dn; En; the other statuses of short messages
-abbrev pub kind_of_status : ℕ → Kind
-kind_of_status s =
-    if nat_lt s 0xb0 then Note
-    else (if nat_lt s 0xc0 then Control
-    else (if nat_lt s 0xd0 then Program
-    else (if nat_lt s 0xe0 then Pressure
-    else (if nat_lt s 0xf0 then Bend else Common))))
-
-abbrev pub kind_of_realtime : ℕ → Kind
-kind_of_realtime b =
-    if b == 0xf8 then Clock
-    else (if b == 0xfe then Sense
-    else (if b == 0xff then Reset else Transport))
+-- the statuses of a kind's messages: of notes 8n, 9n and An; of a SysEx that of its start
+abbrev pub is_of : Kind → (status : ℕ) → Bool
+is_of Note s = nat_le 0x80 s && nat_lt s 0xb0
+is_of Control s = nat_le 0xb0 s && nat_lt s 0xc0
+is_of Program s = nat_le 0xc0 s && nat_lt s 0xd0
+is_of Pressure s = nat_le 0xd0 s && nat_lt s 0xe0
+is_of Bend s = nat_le 0xe0 s && nat_lt s 0xf0
+is_of Common s = (s == 0xf1) || (s == 0xf2) || (s == 0xf3) || (s == 0xf6)
+is_of Sysex s = s == 0xf0
+is_of Clock s = s == 0xf8
+is_of Transport s = (s == 0xfa) || (s == 0xfb) || (s == 0xfc)
+is_of Sense s = s == 0xfe
+is_of Reset s = s == 0xff
 
 -- channels are counted from 1; a System message has none
-abbrev pub channel_of : ℕ → Option ℕ
-channel_of s = if is_channel s then Some (s % 16 + 1) else None
+abbrev pub is_on : Rule → (status : ℕ) → Bool
+is_on r s = not (is_channel s) || (nat_le r.first (s % 16 + 1) && nat_le (s % 16 + 1) r.last)
 
-abbrev pub kind_number : Kind → ℕ
-kind_number Note = 0
-kind_number Control = 1
-kind_number Program = 2
-kind_number Pressure = 3
-kind_number Bend = 4
-kind_number Common = 5
-kind_number Sysex = 6
-kind_number Clock = 7
-kind_number Transport = 8
-kind_number Sense = 9
-kind_number Reset = 10
+abbrev pub is_for : Rule → (status : ℕ) → Bool
+is_for r s = is_of r.kind s && is_on r s
 
-abbrev pub is_on : Rule → Option ℕ → Bool
-is_on r None = true
-is_on r (Some c) = nat_le r.first c && nat_le c r.last
-
-abbrev pub is_for : Rule → Kind → Option ℕ → Bool
-is_for r k c = (kind_number r.kind == kind_number k) && is_on r c
-
-abbrev pub decided : List Rule → Kind → Option ℕ → Action
-decided [] k c = Keep
-decided (r ∷ rs) k c = if is_for r k c then r.action else decided rs k c
+abbrev pub decided : List Rule → (status : ℕ) → Action
+decided [] s = Keep
+decided (r ∷ rs) s = if is_for r s then r.action else decided rs s
 
 abbrev pub if_short : (status data1 data2 : ℕ) → Option Sign
 if_short s a b = if is_short s a b then Some (ShortSign s a b) else None
@@ -79,17 +62,17 @@ acted (Up n) s a b = if nat_lt (a + n) 128 then if_short s (a + n) b else None
 acted (Down n) s a b = if nat_le n a then if_short s (a - n) b else None
 
 abbrev pub mapped_short : List Rule → (status data1 data2 : ℕ) → Option Sign
-mapped_short rules s a b = acted (decided rules (kind_of_status s) (channel_of s)) s a b
+mapped_short rules s a b = acted (decided rules s) s a b
 
 abbrev pub is_drop : Action → Bool
 is_drop Drop = true
 is_drop _ = false
 
 abbrev pub keeps_sysex : List Rule → Bool
-keeps_sysex rules = not (is_drop (decided rules Sysex None))
+keeps_sysex rules = not (is_drop (decided rules 0xf0))
 
 abbrev pub keeps_realtime : List Rule → ℕ → Bool
-keeps_realtime rules b = not (is_drop (decided rules (kind_of_realtime b) None))
+keeps_realtime rules b = not (is_drop (decided rules b))
 
 abbrev pub kept_if : {X : Type 0} → Bool → X → List X
 kept_if keeps x = if keeps then x ∷ [] else []

@@ -1,10 +1,10 @@
 //! Applying rules to events.
 
 ghost use Rattle.std.specs.Prelude.{◌≡◌, Some, None, true, false, if◌then◌else◌, is_none, IfSome};
+ghost use Rattle.mb_message.specs.Bytes.{is_channel};
 ghost use Rattle.mb_message.specs.Signs.{open_behind, signs_of_event, suits_event};
-ghost use Rattle.mb_filter.specs.Mapped.{acted, channel_of, decided, if_short, is_drop, is_for, is_on, keeps_realtime};
-ghost use Rattle.mb_filter.specs.Mapped.{keeps_sysex, kind_number, kind_of_realtime, kind_of_status, mapped_marks};
-ghost use Rattle.mb_filter.specs.Mapped.{mapped_short, on_channel};
+ghost use Rattle.mb_filter.specs.Mapped.{acted, decided, if_short, is_drop, is_for, is_of, is_on, keeps_realtime};
+ghost use Rattle.mb_filter.specs.Mapped.{keeps_sysex, mapped_marks, mapped_short, on_channel};
 ghost use Rattle.mb_filter.specs.Mapper.{IsLeft, drops, kept, mapping, short_event, short_sign};
 
 use crate::rule::{Action, Kind, Rule};
@@ -108,20 +108,20 @@ fn mapped_short(rules: &Rules, short: Short) -> Option<Short>
     ensures { short_sign result ≡ mapped_short rules.now short.status short.data1 short.data2 }
 {
     let status = short.status();
-    let action = decided(rules.list(), kind_of_status(status), channel_of(status));
+    let action = decided(rules.list(), status);
     acted(action, short)
 }
 
 fn keeps_realtime(rules: &Rules, byte: u8) -> bool
     ensures { result ≡ keeps_realtime rules.now byte }
 {
-    !is_drop(decided(rules.list(), kind_of_realtime(byte), None))
+    !is_drop(decided(rules.list(), byte))
 }
 
 fn keeps_sysex(rules: &Rules) -> bool
     ensures { result ≡ keeps_sysex rules.now }
 {
-    !is_drop(decided(rules.list(), Kind::Sysex, None))
+    !is_drop(decided(rules.list(), 0xf0))
 }
 
 #[inline(always)]
@@ -134,94 +134,55 @@ fn is_drop(action: Action) -> bool
     }
 }
 
-/// What is done with a message of a kind and a channel, counted from 1: by the first rule that is for it.
-fn decided(rules: &[Rule], kind: Kind, channel: Option<u8>) -> Action
-    ensures { result ≡ decided rules.now kind channel }
+/// What is done with a message of a status, a SysEx's being F0: by the first rule that is for it.
+fn decided(rules: &[Rule], status: u8) -> Action
+    ensures { result ≡ decided rules.now status }
 {
     for rule in rules {
-        if is_for(rule, kind, channel) {
+        if is_for(rule, status) {
             return rule.action;
         }
     }
     Action::Keep
 }
 
-fn is_for(rule: &Rule, kind: Kind, channel: Option<u8>) -> bool
-    ensures { result ≡ is_for rule.now kind channel }
+fn is_for(rule: &Rule, status: u8) -> bool
+    ensures { result ≡ is_for rule.now status }
 {
-    kind_number(rule.kind) == kind_number(kind) && is_on(rule, channel)
+    is_of(rule.kind, status) && is_on(rule, status)
 }
 
-#[inline(always)]
-fn is_on(rule: &Rule, channel: Option<u8>) -> bool
-    ensures { result ≡ is_on rule.now channel }
-{
-    match channel {
-        None => true,
-        Some(channel) => rule.first <= channel && channel <= rule.last,
-    }
-}
-
-#[inline(always)]
-fn kind_number(kind: Kind) -> u8
-    ensures { result ≡ kind_number kind }
+/// Whether a status is that of a kind's messages.
+fn is_of(kind: Kind, status: u8) -> bool
+    ensures { result ≡ is_of kind status }
 {
     match kind {
-        Kind::Note => 0,
-        Kind::Control => 1,
-        Kind::Program => 2,
-        Kind::Pressure => 3,
-        Kind::Bend => 4,
-        Kind::Common => 5,
-        Kind::Sysex => 6,
-        Kind::Clock => 7,
-        Kind::Transport => 8,
-        Kind::Sense => 9,
-        Kind::Reset => 10,
+        Kind::Note => status >= 0x80 && status < 0xb0,
+        Kind::Control => status >= 0xb0 && status < 0xc0,
+        Kind::Program => status >= 0xc0 && status < 0xd0,
+        Kind::Pressure => status >= 0xd0 && status < 0xe0,
+        Kind::Bend => status >= 0xe0 && status < 0xf0,
+        Kind::Common => status == 0xf1 || status == 0xf2 || status == 0xf3 || status == 0xf6,
+        Kind::Sysex => status == 0xf0,
+        Kind::Clock => status == 0xf8,
+        Kind::Transport => status == 0xfa || status == 0xfb || status == 0xfc,
+        Kind::Sense => status == 0xfe,
+        Kind::Reset => status == 0xff,
     }
 }
 
-fn kind_of_status(status: u8) -> Kind
-    ensures { result ≡ kind_of_status status }
+/// Whether a rule speaks of a message's channel, counted from 1. System messages have none.
+fn is_on(rule: &Rule, status: u8) -> bool
+    ensures { result ≡ is_on rule.now status }
 {
-    if status < 0xb0 {
-        Kind::Note
-    } else if status < 0xc0 {
-        Kind::Control
-    } else if status < 0xd0 {
-        Kind::Program
-    } else if status < 0xe0 {
-        Kind::Pressure
-    } else if status < 0xf0 {
-        Kind::Bend
-    } else {
-        Kind::Common
-    }
+    let channel = status % 16 + 1;
+    !is_channel(status) || (rule.first <= channel && channel <= rule.last)
 }
 
-fn kind_of_realtime(byte: u8) -> Kind
-    ensures { result ≡ kind_of_realtime byte }
+fn is_channel(status: u8) -> bool
+    ensures { result ≡ is_channel status }
 {
-    if byte == 0xf8 {
-        Kind::Clock
-    } else if byte == 0xfe {
-        Kind::Sense
-    } else if byte == 0xff {
-        Kind::Reset
-    } else {
-        Kind::Transport
-    }
-}
-
-/// The channel, counted from 1, of a channel message.
-fn channel_of(status: u8) -> Option<u8>
-    ensures { result ≡ channel_of status }
-{
-    if status >= 0x80 && status < 0xf0 {
-        Some(status % 16 + 1)
-    } else {
-        None
-    }
+    status >= 0x80 && status < 0xf0
 }
 
 /// What is done with a message.
