@@ -39,6 +39,8 @@ mod print;
 #[cfg(test)]
 mod rig;
 #[cfg(test)]
+mod smf;
+#[cfg(test)]
 mod tapes;
 #[cfg(test)]
 mod text;

@@ -3,7 +3,7 @@
 use crate::marks::Sample;
 use crate::text::{Text, put_line, put_note};
 use mb_message::{Note, NoteKind};
-use mb_print::{Line, mark_line, note_line, put_number, put_text, read_number};
+use mb_print::{Kind, Line, mark_line, note_line, put_number, put_text, read_number, report_line};
 
 /// Moments, marks, and their lines.
 const MARKS: &[(u64, Sample, &str)] = &[
@@ -74,6 +74,29 @@ fn lines_of_notes(rt: HostRuntime) {
             at: 12,
         };
         assert!(rt; lines_of(note).as_slice() == text.as_bytes(), "{text}");
+    }
+}
+
+/// What passed when and of which source, and its line in a report.
+const PASSED: &[(u64, u64, u8, Kind, &str)] = &[
+    (1, 2, 1, Kind::M, "1 2 1 M\n"),
+    (2, 2, 0, Kind::S, "2 2 0 S\n"),
+    (0, 4095, 15, Kind::B, "0 4095 15 B\n"),
+    (
+        18446744073709551,
+        18446744073709551,
+        9,
+        Kind::R,
+        "18446744073709551 18446744073709551 9 R\n",
+    ),
+];
+
+#[test]
+fn lines_of_a_report(rt: HostRuntime) {
+    for (arrival, passing, source, kind, text) in PASSED {
+        let mut line = Line::new();
+        report_line(*arrival, *passing, *source, *kind, &mut line);
+        assert!(rt; line.as_slice() == text.as_bytes(), "{text}");
     }
 }
 

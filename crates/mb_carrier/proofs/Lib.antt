@@ -12,6 +12,7 @@ mod MomentExamples
 pub mod LiveLemmas
 pub mod ListLemmas
 pub mod NoteLemmas
+pub mod OwedLemmas
 pub mod PlaceLemmas
 pub mod PortLemmas
 pub mod PutLemmas

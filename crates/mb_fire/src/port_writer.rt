@@ -189,6 +189,18 @@ fn put_bytes(port: u8, dbc: u8, bytes: &[u8], out: &mut Buf) -> u8
         put_three(port, dbc, bytes[0], bytes[1], bytes[2], out);
         return dbc.wrapping_add(24);
     }
+    put_each(port, dbc, bytes, out)
+}
+
+/// `put_bytes` a packet at a time. It stands by itself, so that what three bytes take is compiled into its callers.
+#[inline(never)]
+fn put_each(port: u8, dbc: u8, bytes: &[u8], out: &mut Buf) -> u8
+    requires port { port < 64 }
+    requires room { array_vec_len out.old + frame_size (port / 8) * length bytes.now ≤ 1024 }
+    ensures count { result ≡ dbc_behind dbc bytes.now }
+    ensures written { out.new.items ≡ out.old.items ++ fire_from port dbc bytes.now }
+    ensures len { array_vec_len out.new ≡ array_vec_len out.old + frame_size (port / 8) * length bytes.now }
+{
     let mut rest = bytes;
     let mut count = dbc;
     'bytes: while let Some((byte, tail)) = rest.split_first() {

@@ -29,7 +29,7 @@ pub broken_parts : (f : TapeFault) (t : TapeState) (bytes : List ℕ) → parts_
 broken_parts f t [] = refl
 broken_parts f t (b ∷ bs) = broken_parts f t bs
 
-broken_after : (f : TapeFault) (t : TapeState) (bytes : List ℕ) →
+pub broken_after : (f : TapeFault) (t : TapeState) (bytes : List ℕ) →
     after (record t { place = place.Broken f }) bytes ≡ record t { place = place.Broken f }
 broken_after f t [] = refl
 broken_after f t (b ∷ bs) = broken_after f t bs

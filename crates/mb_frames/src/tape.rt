@@ -1,13 +1,13 @@
 //! Reading a tape from pieces.
 
 ghost use Rattle.std.specs.Prelude.{◌≡◌, ◌≢◌, ℕ, ◌+◌, ◌*◌, ◌<◌, ◌≤◌, not, List, [], ◌∷◌, ◌++◌, length, false};
-ghost use Rattle.std.specs.Prelude.{IfOk, OnErr, Err};
-ghost use Rattle.mb_frames.specs.Tapes.{RecordPart, is_whole, tape_whole};
+ghost use Rattle.std.specs.Prelude.{IfOk, OnErr, Err, map};
+ghost use Rattle.mb_frames.specs.Tapes.{RecordByte, RecordPart, is_whole, tape_whole};
 ghost use Rattle.mb_frames.specs.TapeSteps.{begin_by, tape_behind, behind_head, magic_step, ending_at, fresh, parts_at};
 ghost use Rattle.mb_frames.specs.TapeSteps.{magic_taken, parts_from};
 ghost use Rattle.mb_frames.specs.TapeReading.{BeginsOnly, InHead, FaultAt, FaultStands, IsOver, TapeLongest};
 ghost use Rattle.mb_frames.specs.TapeReading.{TapeStands};
-ghost use Rattle.mb_frames.specs.TapeReading.{IfTold, TapeTakes, tape_owed, tape_told};
+ghost use Rattle.mb_frames.specs.TapeReading.{IfTold, TapeTakes, tape_owed, tape_told, to_come};
 ghost use Rattle.mb_frames.specs.declared.tape.TapeFault.{TapeFault};
 ghost use Rattle.mb_frames.specs.declared.tape.Place.TheVariants as place;
 
@@ -239,6 +239,31 @@ impl Tape {
         match self.place {
             Place::Magic | Place::Broken(TapeFault::Magic) => false,
             Place::Header | Place::Within(_) | Place::Broken(_) => true,
+        }
+    }
+
+    /// Takes bytes of the record under way whose caller reads them by itself, no more than are to come of it. Their end
+    /// is told by `next`.
+    pub fn pass(&mut self, bytes: &[u8])
+        requires few { length bytes.now ≤ to_come self.old }
+        ensures step { TapeTakes self.old self.new bytes.now [] (map RecordByte bytes.now) }
+        ensures stands { (before : List ℕ) (so_far : List RecordPart) → TapeStands self.old before so_far →
+            TapeStands self.new (before ++ bytes.now) (so_far ++ map RecordByte bytes.now) }
+        ensures to_come { to_come self.new + length bytes.now ≡ to_come self.old }
+        ensures owed { tape_owed self.new ≤ tape_owed self.old + length bytes.now }
+    {
+        if let Place::Within(left) = self.place {
+            self.place = Place::Within(left - bytes.len() as u16);
+        }
+    }
+
+    /// How many bytes of the record under way are to come; 0 outside of a record.
+    pub fn to_come(&self) -> u16
+        ensures { result ≡ to_come self.now }
+    {
+        match self.place {
+            Place::Within(left) => left,
+            Place::Magic | Place::Header | Place::Broken(_) => 0,
         }
     }
 

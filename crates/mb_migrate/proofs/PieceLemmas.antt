@@ -2,7 +2,8 @@
 use Rattle.std.proofs.Common.{◌≡◌, ◌≢◌, ℕ, zero, suc, Bool, true, false, List, [], ◌∷◌, ◌++◌, length, flat_map, refl}
 use Rattle.std.proofs.Common.{sym, ◌∙◌, ap, subst, append-nil, Some, None}
 use Rattle.std.specs.Prelude.{◌==◌, if◌then◌else◌, Result, Ok, Err, OnOk, IfOk}
-use Rattle.mb_frames.specs.Tapes.{RecordPart, Whole, Inside, fault_in}
+use Rattle.std.proofs.Common.{map}
+use Rattle.mb_frames.specs.Tapes.{RecordByte, RecordPart, Whole, Inside, fault_in}
 use Rattle.mb_frames.specs.TapeSteps.{TapeState, after, end_by, ending_at, ending_by, magic_taken, parts_from, rest_by}
 use Rattle.mb_frames.specs.TapeReading.{TapeTakes}
 use Rattle.mb_frames.specs.Migrated.{magic_between, migrated_from, part_bytes, step_bytes}
@@ -10,10 +11,10 @@ use Rattle.mb_frames.specs.declared.tape.TapeFault.{TapeFault}
 use Rattle.mb_frames.specs.declared.tape.Place.{Place}
 use Rattle.mb_frames.specs.declared.tape.Place.TheVariants as place
 use Rattle.mb_frames.proofs.TapeStepLemmas.{takes-none, takes-then}
-use Rattle.mb_frames.proofs.TapeLiteral.{broken_parts}
+use Rattle.mb_frames.proofs.TapeLiteral.{broken_after, broken_parts}
 use Rattle.mb_frames.proofs.MigratingLemmas.{step-then, takes-all}
-use Rattle.mb_migrate.specs.Held.{Holds}
-use Rattle.mb_migrate.proofs.HeldLemmas.{Fronted, holds-more, holds-then, fronted-then, fronted-within}
+use Rattle.mb_held.specs.Held.{Holds}
+use Rattle.mb_held.proofs.HeldLemmas.{Fronted, holds-more, holds-then, fronted-then, fronted-within}
 
 -- from one state to another a part of the piece was taken, and what the second form has of it was handed on or is held
 pub record Going (start now : TapeState) (piece rest held : List ℕ) (took : List ℕ → Type 0) : Type 0 where
@@ -164,17 +165,12 @@ over-end start now piece rest empty none = record {
 
 -- at a fault
 
-broken-after : (f : TapeFault) (t : TapeState) (bytes : List ℕ) →
-    after (record t { place = place.Broken f }) bytes ≡ record t { place = place.Broken f }
-broken-after f t [] = refl
-broken-after f t (b ∷ bs) = broken-after f t bs
-
 pub over-fault : (start now : TapeState) (piece rest : List ℕ) (f : TapeFault) → now.place ≡ place.Broken f →
     Over start now piece rest
 over-fault start now piece rest f broken = record {
   parts = subst (λ (p : Place). parts_from (record now { place = p }) rest ≡ []) (sym broken) (broken_parts f now rest);
   state = subst (λ (p : Place). after (record now { place = p }) rest ≡ record now { place = p }) (sym broken)
-      (broken-after f now rest);
+      (broken_after f now rest);
 }
 
 -- the fault that is answered
@@ -208,3 +204,8 @@ on-ok (Err x) P p = tt
 pub if-ok : {T E : Type 0} (r : Result T E) (x y : T) → IfOk r (λ t. t ≡ x) → x ≡ y → IfOk r (λ t. t ≡ y)
 if-ok (Ok t) x y is same = is ∙ same
 if-ok (Err e) x y is same = tt
+
+-- the bytes of a record
+pub bytes-same : (bytes : List ℕ) → flat_map part_bytes (map RecordByte bytes) ≡ bytes
+bytes-same [] = refl
+bytes-same (b ∷ bs) = ap (λ xs. b ∷ xs) (bytes-same bs)

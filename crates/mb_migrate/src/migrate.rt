@@ -7,10 +7,10 @@ ghost use Rattle.mb_frames.specs.Tapes.{fault_in, header};
 ghost use Rattle.mb_frames.specs.TapeSteps.{after, ending_at};
 ghost use Rattle.mb_frames.specs.TapeReading.{told_part};
 ghost use Rattle.mb_frames.specs.Migrated.{magic_between, migrated_from, part_bytes};
-ghost use Rattle.mb_migrate.specs.Held.{Holds};
+ghost use Rattle.mb_held.specs.Held.{Holds};
 
-use crate::held::{make_place, put_bytes};
 use mb_frames::{Tape, TapeFault, TapePart, put_header, tape_magic};
+use mb_held::{make_place, put_bytes};
 use mb_message::Buf;
 use mb_outside::{Out, Refused};
 
@@ -111,7 +111,7 @@ fn put_magic<K: Out>(before: bool, now: bool, held: &mut Buf, out: &mut K) -> Re
     if !now {
         return Ok(());
     }
-    if let Err(refused) = make_place(held, out) {
+    if let Err(refused) = make_place(16, held, out) {
         return Err(refused);
     }
     tape_magic(held);
@@ -153,7 +153,7 @@ fn put_begin<K: Out>(
     ensures err { OnErr result (TookFront K.took out.old out.new (held.old.items
         ++ header true moment track len)) }
 {
-    if let Err(refused) = make_place(held, out) {
+    if let Err(refused) = make_place(16, held, out) {
         return Err(refused);
     }
     put_header(moment, track, len, held);

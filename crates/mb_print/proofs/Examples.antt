@@ -3,7 +3,8 @@ use Rattle.std.specs.Prelude.{◌≡◌, true, false, codes, refl}
 use Rattle.std.specs.Fmt.{digits}
 use Rattle.mb_message.specs.Signs.{ShortSign, RtSign, OpenSign, ByteSign, EndSign, AbortSign}
 use Rattle.mb_message.specs.declared.note.NoteKind.TheVariants.{StrayData, NoMidiQuadlet}
-use Rattle.mb_print.specs.Lines.{mark_text, note_text}
+use Rattle.mb_print.specs.Lines.{mark_text, note_text, report_text}
+use Rattle.mb_print.specs.declared.lines.Kind.TheVariants.{M, S, B, R}
 
 three_bytes : mark_text 1250 (ShortSign 0x90 0x3c 0x64) ≡ codes "1250 short 90 3C 64\n"
 unfolding digits
@@ -44,3 +45,19 @@ checked = refl
 among_marks : note_text true 9 NoMidiQuadlet ≡ codes "note 9 no-midi-quadlet\n"
 unfolding digits
 among_marks = refl
+
+short_passed : report_text 1 2 1 M ≡ codes "1 2 1 M\n"
+unfolding digits
+short_passed = refl
+
+sysex_ended : report_text 2 2 0 S ≡ codes "2 2 0 S\n"
+unfolding digits
+sysex_ended = refl
+
+sysex_broken : report_text 0 18446744073709551 15 B ≡ codes "0 18446744073709551 15 B\n"
+unfolding digits
+sysex_broken = refl
+
+realtime_passed : report_text 10 10 9 R ≡ codes "10 10 9 R\n"
+unfolding digits
+realtime_passed = refl

@@ -7,6 +7,8 @@
 --   mark_text moment sign         the line of a mark: `MOMENT short B1 B2 B3`
 --   kind_text kind                the word of a note
 --   note_text traced at kind      the line of a note: `AT KIND`, or `note AT KIND` among marks
+--   kind_letter kind              the letter of what passed
+--   report_text arrival passing source kind      the line of a report: `ARRIVAL PASSING SOURCE KIND`
 use Rattle.std.specs.Prelude.{ℕ, ◌+◌, ◌-◌, ◌/◌, ◌%◌, nat_lt, Bool, if◌then◌else◌, List, [], ◌∷◌, ◌++◌, flat_map, take}
 use Rattle.std.specs.Prelude.{codes, decimal}
 use Rattle.mb_message.specs.Bytes.{length_of_short}
@@ -15,6 +17,8 @@ use Rattle.mb_message.specs.declared.note.NoteKind.{NoteKind}
 use Rattle.mb_message.specs.declared.note.NoteKind.TheVariants.{StrayData, Truncated, StrayEnd, Undefined, ReservedCin}
 use Rattle.mb_message.specs.declared.note.NoteKind.TheVariants.{CinMismatch, BadHeader, EmptyPacket, LoneStamp, BadCip}
 use Rattle.mb_message.specs.declared.note.NoteKind.TheVariants.{ZeroDbs, Ragged, NoMidiQuadlet, DbcGap}
+use Rattle.mb_print.specs.declared.lines.Kind.{Kind}
+use Rattle.mb_print.specs.declared.lines.Kind.TheVariants as kind
 
 -- 48 is `0`, 65 is `A`.
 abbrev pub hex_digit : ℕ → ℕ
@@ -62,3 +66,15 @@ kind_text DbcGap = codes "dbc-gap"
 abbrev pub note_text : (traced : Bool) (at : ℕ) → NoteKind → List ℕ
 note_text traced at kind =
     (if traced then codes "note " else []) ++ decimal at ++ codes " " ++ kind_text kind ++ codes "\n"
+
+-- `M` of a short message, `S` of a SysEx that ended, `B` of one that was broken off, `R` of a real-time message
+abbrev pub kind_letter : Kind → ℕ
+kind_letter kind.M = 77
+kind_letter kind.S = 83
+kind_letter kind.B = 66
+kind_letter kind.R = 82
+
+abbrev pub report_text : (arrival passing source : ℕ) → Kind → List ℕ
+report_text arrival passing source kind =
+    decimal arrival ++ codes " " ++ decimal passing ++ codes " " ++ decimal source ++ codes " " ++ kind_letter kind ∷ []
+    ++ codes "\n"

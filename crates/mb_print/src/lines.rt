@@ -1,15 +1,15 @@
-//! The line of a mark, and the line of a note.
+//! The line of a mark, of a note, and of a message in a report.
 
 ghost use Rattle.std.specs.Prelude.{◌≡◌, ◌+◌, ◌≤◌, [], ◌++◌, length};
 ghost use Rattle.arrayvec.specs.ArrayVec.{array_vec_len};
 ghost use Rattle.mb_message.specs.Signs.{ShortSign, sign_of};
-ghost use Rattle.mb_print.specs.Lines.{kind_text, mark_text, mark_words, note_text};
+ghost use Rattle.mb_print.specs.Lines.{kind_letter, kind_text, mark_text, mark_words, note_text, report_text};
 
 use crate::numbers::{put_byte, put_number, put_text};
 use arrayvec::ArrayVec;
 use mb_message::{Mark, Note, NoteKind, Short};
 
-/// One line of text, in bytes. The longest, of a note among marks, has 42.
+/// One line of text, in bytes. The longest, of a report, has 65.
 pub type Line = ArrayVec<u8, 96>;
 
 /// Writes the line of a mark: `MOMENT short B1 [B2 [B3]]`, `MOMENT rt B`, `MOMENT open`, `MOMENT data B`, `MOMENT end`
@@ -39,6 +39,44 @@ pub fn note_line(note: Note, traced: bool, out: &mut Line)
     out.push(b' ');
     put_text(kind_text(note.kind), out);
     out.push(b'\n');
+}
+
+/// What passed: a short message, a SysEx that ended, a SysEx that was broken off, a real-time message.
+#[derive(Clone, Copy, Debug, PartialEq, Eq)]
+pub enum Kind {
+    M,
+    S,
+    B,
+    R,
+}
+
+/// Writes the line of a report: `ARRIVAL PASSING SOURCE KIND`, the moments in milliseconds, and a line feed. The line is
+/// empty at the start.
+pub fn report_line(arrival: u64, passing: u64, source: u8, kind: Kind, out: &mut Line)
+    requires { out.old.items ≡ [] }
+    ensures line { out.new.items ≡ report_text arrival passing source kind }
+    ensures len { array_vec_len out.new ≤ 65 }
+{
+    put_number(arrival, out);
+    out.push(b' ');
+    put_number(passing, out);
+    out.push(b' ');
+    put_number(u64::from(source), out);
+    out.push(b' ');
+    out.push(letter_of(kind));
+    out.push(b'\n');
+}
+
+/// The letter of a kind.
+fn letter_of(kind: Kind) -> u8
+    ensures letter { result ≡ kind_letter kind }
+{
+    match kind {
+        Kind::M => b'M',
+        Kind::S => b'S',
+        Kind::B => b'B',
+        Kind::R => b'R',
+    }
 }
 
 /// Appends what a mark is, and its bytes.

@@ -1,6 +1,6 @@
 use Rattle.std.proofs.Common.{◌++◌, List, ℕ, subst}
 use Rattle.mb_frames.specs.Migrated.{magic_between}
-use Rattle.mb_migrate.proofs.HeldLemmas.{Fronted, given-then, refused-then}
+use Rattle.mb_held.proofs.HeldLemmas.{Fronted, given-then, refused-then}
 use Rattle.mb_migrate.proofs.migrate.hand_on.Goals as goal
 
 pub returns-in-Ok-clause-took : goal.returns-in-Ok-clause-took

@@ -3,8 +3,9 @@ use Rattle.std.proofs.lemmas.Result.{on_ok_weaker, on_err_weaker}
 use Rattle.mb_frames.specs.TapeReading.{told_part}
 use Rattle.mb_frames.specs.Migrated.{part_bytes}
 use Rattle.mb_frames.specs.declared.tape.TapePart.{TapePart}
-use Rattle.mb_migrate.specs.Held.{Holds}
-use Rattle.mb_migrate.proofs.HeldLemmas.{Fronted, bytes-same}
+use Rattle.mb_held.specs.Held.{Holds}
+use Rattle.mb_held.proofs.HeldLemmas.{Fronted}
+use Rattle.mb_migrate.proofs.PieceLemmas.{bytes-same}
 use Rattle.mb_migrate.proofs.migrate.put_part.Goals as goal
 
 pub returns-in-Bytes-clause-ok : goal.returns-in-Bytes-clause-ok

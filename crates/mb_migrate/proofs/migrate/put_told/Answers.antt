@@ -2,8 +2,8 @@ use Rattle.std.proofs.Common.{◌++◌, List, ℕ, append_assoc, flat_map, subst
 use Rattle.std.proofs.lemmas.Result.{on_ok_weaker, on_err_weaker}
 use Rattle.mb_frames.specs.TapeReading.{told_part}
 use Rattle.mb_frames.specs.Migrated.{magic_between, part_bytes}
-use Rattle.mb_migrate.specs.Held.{Holds}
-use Rattle.mb_migrate.proofs.HeldLemmas.{Fronted, holds-then, fronted-then, fronted-within}
+use Rattle.mb_held.specs.Held.{Holds}
+use Rattle.mb_held.proofs.HeldLemmas.{Fronted, holds-then, fronted-then, fronted-within}
 use Rattle.mb_migrate.proofs.migrate.put_told.Goals as goal
 
 pub returns-in-Err-clause-err : goal.returns-in-Err-clause-err

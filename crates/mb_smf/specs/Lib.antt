@@ -1,0 +1,9 @@
+pub mod FileStep
+pub mod HeaderSteps
+pub mod Smf
+pub mod SmfEvents
+pub mod SmfReading
+pub mod SmfWritten
+pub mod TrackSteps
+pub mod TrackTime
+pub mod TrackWriting

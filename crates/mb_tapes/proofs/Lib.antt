@@ -1,0 +1,2 @@
+pub mod PlayedLaw
+pub mod PlayingLemmas

@@ -1,0 +1,7 @@
+pub mod RecordLemmas
+pub mod MarkLemmas
+pub mod StandLemmas
+pub mod FrontLemmas
+pub mod RisingRecords
+pub mod EndLemmas
+mod Examples
