@@ -10,18 +10,21 @@ use Rattle.mb_outside.specs.ContentsLaws.{after_write-none, after_write-twice, a
 use Rattle.mb_message.specs.Front.{IsFront}
 use Rattle.mb_carrier.specs.Carrier.{whole}
 use Rattle.mb_carrier.specs.declared.spec.Spec.{Spec}
-use Rattle.mb_words.specs.Command.{Command, Converting, Listing, Migrating, Means, Selftesting}
+use Rattle.mb_words.specs.Command.{Command, Converting, Listing, Migrating, PlayingFile, GuardingTape, Selftesting, Means}
 use Rattle.mb_words.proofs.CommandLemmas.{one_command}
 use Rattle.mb_top.specs.Output.{ReadsOne, reads_from, writes_to, may_want_memory, answers_notes, is_whole}
-use Rattle.mb_top.specs.Output.{fault_of, reads_tape}
+use Rattle.mb_top.specs.Output.{fault_of, in_file, in_tape, reads_file, reads_tape, writes_at_stop}
 use Rattle.std.specs.Prelude.{Some}
 use Rattle.mb_frames.specs.declared.tape.TapeFault.{TapeFault}
+use Rattle.mb_smf.specs.declared.fault.SmfFault.{SmfFault}
+use Rattle.mb_top.specs.declared.fault.Fault.{Fault}
+use Rattle.mb_top.specs.declared.fault.Fault.TheVariants as fault
 use Rattle.mb_top.specs.Answer.{Answered, DidAll, Moved, EndsAs, Says, faults_told, taken_off, added_to, code_of}
 use Rattle.mb_top.specs.Answer.{text_of, read_all}
 use Rattle.mb_top.specs.Ran.{CommandRan, RanWords, MayAnswer, MayAnswerWords, Faulted, written_of}
 use Rattle.mb_top.specs.declared.status.Status.{Status}
 use Rattle.mb_top.specs.declared.status.Status.TheVariants.{Done, Noted, Usage, Cut, NoMemory, Stopped}
-use Rattle.mb_top.specs.declared.status.Stop.TheVariants.{ReadFault, Refused, TooLong, BadTape}
+use Rattle.mb_top.specs.declared.status.Stop.TheVariants.{ReadFault, Refused, TooLong, Faulty}
 use Rattle.mb_top.specs.declared.status.Stop.{Stop}
 use Rattle.mb_carrier.specs.Conversion.{through}
 use Rattle.mb_carrier.specs.declared.spec.Spec.TheVariants.{Din}
@@ -38,7 +41,11 @@ status_at n =
     (if n == 3 then Stopped ReadFault else (if n == 4 then Stopped Refused else
     (if n == 5 then Cut else (if n == 8 then Stopped TooLong else NoMemory))))))
 
-again : (s : Status) → (code_of s == 7) ≡ false → status_at (code_of s) ≡ s
+-- the numbers that tell of a fault, and not of which
+abbrev pub tells_fault : ℕ → Bool
+tells_fault n = (n == 7) || (n == 13)
+
+again : (s : Status) → tells_fault (code_of s) ≡ false → status_at (code_of s) ≡ s
 again Done other = refl
 again Noted other = refl
 again Usage other = refl
@@ -47,15 +54,17 @@ again NoMemory other = refl
 again (Stopped ReadFault) other = refl
 again (Stopped Refused) other = refl
 again (Stopped TooLong) other = refl
-again (Stopped (BadTape f)) other = absurd (wrong other)
+again (Stopped (Faulty (fault.Tape f))) other = absurd (wrong other)
+again (Stopped (Faulty (fault.File f))) other = absurd (wrong other)
 
--- but for that of a fault in a tape, which is known too
-pub same_status : (s t : Status) → (code_of t == 7) ≡ false → code_of s ≡ code_of t → s ≡ t
+-- but for those of a fault, which are known too
+pub same_status : (s t : Status) → tells_fault (code_of t) ≡ false → code_of s ≡ code_of t → s ≡ t
 same_status s t other e =
-    sym (again s (ap (λ (n : ℕ). n == 7) e ∙ other)) ∙ (ap status_at e ∙ again t other)
+    sym (again s (ap tells_fault e ∙ other)) ∙ (ap status_at e ∙ again t other)
 
-pub bad_tape : (s : Status) → code_of s ≡ 7 → (f : TapeFault) × (s ≡ Stopped (BadTape f))
-bad_tape (Stopped (BadTape f)) e = (f, refl)
+pub bad_tape : (s : Status) → code_of s ≡ 7 → (f : TapeFault) × (s ≡ Stopped (Faulty (fault.Tape f)))
+bad_tape (Stopped (Faulty (fault.Tape f))) e = (f, refl)
+bad_tape (Stopped (Faulty (fault.File f))) e = absurd (omega (arith, e))
 bad_tape (Stopped ReadFault) e = absurd (omega (arith, e))
 bad_tape (Stopped Refused) e = absurd (omega (arith, e))
 bad_tape (Stopped TooLong) e = absurd (omega (arith, e))
@@ -64,6 +73,18 @@ bad_tape Noted e = absurd (omega (arith, e))
 bad_tape Usage e = absurd (omega (arith, e))
 bad_tape Cut e = absurd (omega (arith, e))
 bad_tape NoMemory e = absurd (omega (arith, e))
+
+pub bad_file : (s : Status) → code_of s ≡ 13 → (f : SmfFault) × (s ≡ Stopped (Faulty (fault.File f)))
+bad_file (Stopped (Faulty (fault.File f))) e = (f, refl)
+bad_file (Stopped (Faulty (fault.Tape f))) e = absurd (omega (arith, e))
+bad_file (Stopped ReadFault) e = absurd (omega (arith, e))
+bad_file (Stopped Refused) e = absurd (omega (arith, e))
+bad_file (Stopped TooLong) e = absurd (omega (arith, e))
+bad_file Done e = absurd (omega (arith, e))
+bad_file Noted e = absurd (omega (arith, e))
+bad_file Usage e = absurd (omega (arith, e))
+bad_file Cut e = absurd (omega (arith, e))
+bad_file NoMemory e = absurd (omega (arith, e))
 
 pub other_status : (s t : Status) → (code_of s ≡ code_of t → ⊥) → s ≡ t → ⊥
 other_status s t other e = other (ap code_of e)
@@ -79,7 +100,8 @@ at_the_end claim done noted cut NoMemory e = absurd (wrong (sym e))
 at_the_end claim done noted cut (Stopped ReadFault) e = absurd (wrong (sym e))
 at_the_end claim done noted cut (Stopped Refused) e = absurd (wrong (sym e))
 at_the_end claim done noted cut (Stopped TooLong) e = absurd (wrong (sym e))
-at_the_end claim done noted cut (Stopped (BadTape f)) e = absurd (wrong (sym e))
+at_the_end claim done noted cut (Stopped (Faulty (fault.Tape f))) e = absurd (wrong (sym e))
+at_the_end claim done noted cut (Stopped (Faulty (fault.File f))) e = absurd (wrong (sym e))
 
 -- what a caller sees of what was read, written and said
 
@@ -221,6 +243,8 @@ only_writes : (c : Command) (handle : ℕ) → writes_to c handle ≡ false → 
 only_writes (Converting tally first between last) handle e = e
 only_writes (Listing traced s) handle e = e
 only_writes Migrating handle e = e
+only_writes PlayingFile handle e = e
+only_writes (GuardingTape s) handle e = e
 only_writes (Selftesting start count) handle e = e
 
 unread : (input : List ℕ) (handle : ℕ) → (handle == 0) ≡ false → seen_at input handle ≡ []
@@ -239,6 +263,8 @@ unread-by : (c : Command) (input : List ℕ) (handle : ℕ) → (reads_from c 0 
 unread-by (Converting tally first between last) input handle none e = unread input handle e
 unread-by (Listing traced s) input handle none e = unread input handle e
 unread-by Migrating input handle none e = unread input handle e
+unread-by PlayingFile input handle none e = unread input handle e
+unread-by (GuardingTape s) input handle none e = unread input handle e
 unread-by (Selftesting start count) input handle none e = none-read input handle (none refl)
 
 unwritten : (output words : List ℕ) (handle : ℕ) → ((handle == 1) || (handle == 2)) ≡ false →
@@ -267,13 +293,13 @@ written-behind : (input output tally text : List ℕ) (before : Contents) →
 written-behind input output tally text before = after_write-twice 2 tally text
     (after_write 1 output (after_read 0 (length input) before))
 
-pub answered : (words : List (List ℕ)) (limit : ℕ) (before mid after : Contents)
+pub answered : (quiet : Type 0) (words : List (List ℕ)) (limit : ℕ) (before mid after : Contents)
     (reads reads_mid faults faults_mid faults_now : ℕ) (status : Status) (answer : ℕ) (text : List ℕ) →
     answer ≡ code_of status → RanWords words limit before mid status →
-    Faulted reads reads_mid faults faults_mid status → after ≡ after_write 2 text mid →
+    Faulted quiet reads reads_mid faults faults_mid status → after ≡ after_write 2 text mid →
     Says (Rose faults_mid faults_now) text (text_of status) → (text ≡ text_of status → faults_now ≡ faults_mid) →
     Answered words limit before after faults faults_now answer
-answered words limit before mid after reads reads_mid faults faults_mid faults_now status answer text number r fault
+answered quiet words limit before mid after reads reads_mid faults faults_mid faults_now status answer text number r fault
     wrote says told =
     subst (λ (c : Contents). Answered words limit before c faults faults_now answer) (sym all)
     (record {
@@ -336,9 +362,9 @@ answered words limit before mid after reads reads_mid faults faults_mid faults_n
     by_told (Stopped ReadFault) = inr refl
     by_told (Stopped Refused) = inl refl
     by_told (Stopped TooLong) = inr refl
-    by_told (Stopped (BadTape f)) = inr refl
+    by_told (Stopped (Faulty f)) = inr refl
 
-    rose-more : (before mid now : ℕ) (s : Status) (reads reads_mid : ℕ) → Faulted reads reads_mid before mid s →
+    rose-more : (before mid now : ℕ) (s : Status) (reads reads_mid : ℕ) → Faulted quiet reads reads_mid before mid s →
         Rose mid now → Rose (before + faults_told s) now
     rose-more before mid now s reads reads_mid f r = elim (by_told s) [
       | inl e ↦ (let one : faults_told s ≡ 1 = ap faults_told e in omega (arith, r, f.write e, one))
@@ -346,7 +372,7 @@ answered words limit before mid after reads reads_mid faults faults_mid faults_n
     ]
 
     says-earlier : (before mid now : ℕ) (s : Status) (text : List ℕ) (reads reads_mid : ℕ) →
-        Faulted reads reads_mid before mid s → Says (Rose mid now) text (text_of s) →
+        Faulted quiet reads reads_mid before mid s → Says (Rose mid now) text (text_of s) →
         Says (Rose (before + faults_told s) now) text (text_of s)
     says-earlier before mid now s text reads reads_mid f says =
         record {
@@ -401,10 +427,24 @@ may-words c words status m may = record {
       (c, m, may);
 }
 
+-- a command is quiet where all that the words mean are
+pub quiet-words : (c : Command) (words : List (List ℕ)) (reads reads_now writes writes_now : ℕ) (status : Status) →
+    Means words c → Faulted (writes_at_stop c ≡ false) reads reads_now writes writes_now status →
+    Faulted ((d : Command) → Means words d → writes_at_stop d ≡ false) reads reads_now writes writes_now status
+quiet-words c words reads reads_now writes writes_now status m f =
+    record {
+      reads_later = f.reads_later;
+      writes_later = f.writes_later;
+      read = f.read;
+      write = f.write;
+      unread = λ other stopped. f.unread other (λ e. stopped e c m);
+      unwritten = f.unwritten;
+    }
+
 -- what the answer says of a command
 
 pub ends-at_status : (words : List (List ℕ)) (limit : ℕ) (before after : Contents) (faults faults_now answer : ℕ)
-    (c : Command) (status : Status) → (code_of status == 7) ≡ false →
+    (c : Command) (status : Status) → tells_fault (code_of status) ≡ false →
     answer ≡ code_of status → Means words c → (a : Answered words limit before after faults faults_now answer) →
     EndsAs c limit (before.left 0) (taken_off 0 before after) (added_to 1 before after) a.tally status
 ends-at_status words limit before after faults faults_now answer c status other e m a =
@@ -425,19 +465,25 @@ is_whole-of : (c : Command) (s : Spec) (input : List ℕ) → ReadsOne c s → i
 is_whole-of (Converting tally first between last) s input e = ap (λ (t : Spec). whole t input) (sym e)
 is_whole-of (Listing traced t) s input e = ap (λ (u : Spec). whole u input) (sym e)
 is_whole-of Migrating s input e = absurd e
+is_whole-of PlayingFile s input e = absurd e
+is_whole-of (GuardingTape t) s input e = absurd e
 is_whole-of (Selftesting start count) s input e = absurd e
 
 -- a recording that is no tape has no fault
-pub no_fault : (c : Command) (s : Spec) (input : List ℕ) (f : TapeFault) → ReadsOne c s → fault_of c input ≡ Some f → ⊥
+pub no_fault : (c : Command) (s : Spec) (input : List ℕ) (f : Fault) → ReadsOne c s → fault_of c input ≡ Some f → ⊥
 no_fault (Converting tally first between last) s input f reads e = cc
 no_fault (Listing traced t) s input f reads e = cc
 no_fault Migrating s input f reads e = reads
+no_fault PlayingFile s input f reads e = reads
+no_fault (GuardingTape t) s input f reads e = reads
 no_fault (Selftesting start count) s input f reads e = reads
 
 pub one-reads : (c : Command) (s : Spec) → ReadsOne c s → reads_from c 0 ≡ true
 one-reads (Converting tally first between last) s e = refl
 one-reads (Listing traced t) s e = refl
 one-reads Migrating s e = absurd e
+one-reads PlayingFile s e = absurd e
+one-reads (GuardingTape t) s e = absurd e
 one-reads (Selftesting start count) s e = absurd e
 
 -- at the end, it is 5 exactly where the input stops inside a packet
@@ -470,7 +516,7 @@ pub reads_all : (words : List (List ℕ)) (limit : ℕ) (before after : Contents
     Means words c → MayAnswerWords words status → may_want_memory c ≡ false →
     (status ≡ Stopped ReadFault → reads) → (status ≡ Stopped Refused → writes) → (reads → ⊥) → (writes → ⊥) →
     length (before.left 0) < limit →
-    ((input : List ℕ) (g : TapeFault) → IsFront input (before.left 0) → fault_of c input ≡ Some g → ⊥) →
+    ((input : List ℕ) (g : Fault) → IsFront input (before.left 0) → fault_of c input ≡ Some g → ⊥) →
     RanWords words limit before after status → read_all (code_of status) ≡ true
 reads_all words limit before after reads writes Done c m may w r f nr nw short sound ran = refl
 reads_all words limit before after reads writes Noted c m may w r f nr nw short sound ran = refl
@@ -485,8 +531,10 @@ reads_all words limit before after reads writes (Stopped Refused) c m may w r f 
     absurd (nw (f refl))
 reads_all words limit before after reads writes (Stopped TooLong) c m may w r f nr nw short sound ran =
     absurd (omega (arith, short, (ran.ends c m).0, ap length (ran.front).1, length-append ran.input (ran.front).0))
-reads_all words limit before after reads writes (Stopped (BadTape g)) c m may w r f nr nw short sound ran =
-    absurd (sound ran.input g ran.front (ran.ends c m).2)
+reads_all words limit before after reads writes (Stopped (Faulty (fault.Tape g))) c m may w r f nr nw short sound ran =
+    absurd (sound ran.input (fault.Tape g) ran.front (ran.ends c m).2)
+reads_all words limit before after reads writes (Stopped (Faulty (fault.File g))) c m may w r f nr nw short sound ran =
+    absurd (sound ran.input (fault.File g) ran.front (ran.ends c m).2)
 
 -- of a conversion of a whole input, that is 0
 pub completes : (words : List (List ℕ)) (limit : ℕ) (before after : Contents) (faults faults_now answer : ℕ)
@@ -510,13 +558,17 @@ means-noted words (Converting tally first between last) m e = absurd (wrong (sym
 means-noted words (Listing true s) m e = absurd (wrong (sym e))
 means-noted words (Listing false s) m e = (s, m)
 means-noted words Migrating m e = absurd (wrong (sym e))
+means-noted words PlayingFile m e = absurd (wrong (sym e))
+means-noted words (GuardingTape s) m e = absurd (wrong (sym e))
 means-noted words (Selftesting start count) m e = absurd (wrong (sym e))
 
-means-tape : (words : List (List ℕ)) (c : Command) → Means words c → reads_tape c ≡ true → Means words Migrating
-means-tape words (Converting tally first between last) m e = absurd (wrong (sym e))
-means-tape words (Listing traced s) m e = absurd (wrong (sym e))
-means-tape words Migrating m e = m
-means-tape words (Selftesting start count) m e = absurd (wrong (sym e))
+means-file : (words : List (List ℕ)) (c : Command) → Means words c → reads_file c ≡ true → Means words PlayingFile
+means-file words (Converting tally first between last) m e = absurd (wrong (sym e))
+means-file words (Listing traced s) m e = absurd (wrong (sym e))
+means-file words Migrating m e = absurd (wrong (sym e))
+means-file words PlayingFile m e = m
+means-file words (GuardingTape s) m e = absurd (wrong (sym e))
+means-file words (Selftesting start count) m e = absurd (wrong (sym e))
 
 pub is_canonical : (first : Spec) (between : List Spec) (last : Spec) (read written : List ℕ) → last ≡ Din →
     written ≡ through first between last read → through Din [] Din written ≡ written
@@ -552,31 +604,31 @@ is_meant words status answer number may other = let m = may.other (λ e. other (
 
 -- the same of desks that tell nothing
 
-pub read_faults : (reads reads_mid reads_now writes writes_mid : ℕ) (status : Status) (answer : ℕ) →
-    answer ≡ code_of status → reads_now ≡ reads_mid → Faulted reads reads_mid writes writes_mid status →
-    (answer ≡ 3 → Rose reads reads_now) × ((answer ≡ 3 → ⊥) → reads_now ≡ reads)
-read_faults reads reads_mid reads_now writes writes_mid status answer number same f = (
+pub read_faults : (quiet : Type 0) (reads reads_mid reads_now writes writes_mid : ℕ) (status : Status) (answer : ℕ) →
+    answer ≡ code_of status → reads_now ≡ reads_mid → Faulted quiet reads reads_mid writes writes_mid status →
+    (answer ≡ 3 → Rose reads reads_now) × ((answer ≡ 3 → ⊥) → (answer ≡ 4 → quiet) → reads_now ≡ reads)
+read_faults quiet reads reads_mid reads_now writes writes_mid status answer number same f = (
   λ three. subst (λ (n : ℕ). Rose reads n) (sym same)
       (f.read (same_status status (Stopped ReadFault) refl (sym number ∙ three))),
-  λ other. same ∙ f.unread (λ e. other (number ∙ ap code_of e)),
+  λ other stopped. same ∙ f.unread (λ e. other (number ∙ ap code_of e)) (λ e. stopped (number ∙ ap code_of e)),
 )
 
-pub write_fault : (reads reads_mid writes writes_mid writes_now : ℕ) (status : Status) (answer : ℕ) →
-    answer ≡ code_of status → writes_mid ≤ writes_now → Faulted reads reads_mid writes writes_mid status →
+pub write_fault : (quiet : Type 0) (reads reads_mid writes writes_mid writes_now : ℕ) (status : Status) (answer : ℕ) →
+    answer ≡ code_of status → writes_mid ≤ writes_now → Faulted quiet reads reads_mid writes writes_mid status →
     answer ≡ 4 → Rose writes writes_now
-write_fault reads reads_mid writes writes_mid writes_now status answer number later f four =
+write_fault quiet reads reads_mid writes writes_mid writes_now status answer number later f four =
     omega (arith, f.write (same_status status (Stopped Refused) refl (sym number ∙ four)), later)
 
-pub no_write_fault : (reads reads_mid writes writes_mid writes_now : ℕ) (status : Status) (answer : ℕ) →
+pub no_write_fault : (quiet : Type 0) (reads reads_mid writes writes_mid writes_now : ℕ) (status : Status) (answer : ℕ) →
     answer ≡ code_of status → (text_of status ≡ [] → writes_now ≡ writes_mid) →
-    Faulted reads reads_mid writes writes_mid status → (answer ≡ 0) ⊎ (answer ≡ 1) → writes_now ≡ writes
-no_write_fault reads reads_mid writes writes_mid writes_now status answer number quiet f e = elim e [
+    Faulted quiet reads reads_mid writes writes_mid status → (answer ≡ 0) ⊎ (answer ≡ 1) → writes_now ≡ writes
+no_write_fault quiet reads reads_mid writes writes_mid writes_now status answer number silent f e = elim e [
   | inl zero ↦ by_status Done (same_status status Done refl (sym number ∙ zero)) refl (λ h. omega (arith, h))
   | inr one ↦ by_status Noted (same_status status Noted refl (sym number ∙ one)) refl (λ h. omega (arith, h))
 ]
   where
     by_status : (s : Status) → status ≡ s → text_of s ≡ [] → (code_of s ≡ 4 → ⊥) → writes_now ≡ writes
-    by_status s same none other = quiet (ap text_of same ∙ none) ∙ f.unwritten (λ e. other (ap code_of (sym same ∙ e)))
+    by_status s same none other = silent (ap text_of same ∙ none) ∙ f.unwritten (λ e. other (ap code_of (sym same ∙ e)))
 
 pub wants_memory : (words : List (List ℕ)) (status : Status) (answer : ℕ) → answer ≡ code_of status →
     MayAnswerWords words status → answer ≡ 9 →
@@ -594,11 +646,18 @@ noted_alone words status answer number may one =
     means-noted words m.0 m.1 (subst (MayAnswer m.0) same m.2)
 
 pub tape_alone : (words : List (List ℕ)) (status : Status) (answer : ℕ) → answer ≡ code_of status →
-    MayAnswerWords words status → answer ≡ 7 → Means words Migrating
+    MayAnswerWords words status → answer ≡ 7 → (c : Command) × Means words c × (reads_tape c ≡ true)
 tape_alone words status answer number may seven =
     let same = bad_tape status (sym number ∙ seven) in
     let m = may.other (other_status status Usage (λ e. omega (arith, number, seven, e))) in
-    means-tape words m.0 m.1 (subst (MayAnswer m.0) same.1 m.2)
+    (m.0, m.1, subst (MayAnswer m.0) same.1 m.2)
+
+pub file_alone : (words : List (List ℕ)) (status : Status) (answer : ℕ) → answer ≡ code_of status →
+    MayAnswerWords words status → answer ≡ 13 → Means words PlayingFile
+file_alone words status answer number may thirteen =
+    let same = bad_file status (sym number ∙ thirteen) in
+    let m = may.other (other_status status Usage (λ e. omega (arith, number, thirteen, e))) in
+    means-file words m.0 m.1 (subst (MayAnswer m.0) same.1 m.2)
 
 -- a self-test
 
@@ -624,9 +683,12 @@ selftest-ends words start count status answer number may means = by_status statu
     by_status (Stopped ReadFault) e may =
         absurd (wrong (sym (its (Stopped ReadFault) may
         (other_status (Stopped ReadFault) Usage (λ e. omega (arith, e))))))
-    by_status (Stopped (BadTape f)) e may =
-        absurd (wrong (sym (its (Stopped (BadTape f)) may
-        (other_status (Stopped (BadTape f)) Usage (λ e. omega (arith, e))))))
+    by_status (Stopped (Faulty (fault.Tape f))) e may =
+        absurd (wrong (sym (its (Stopped (Faulty (fault.Tape f))) may
+        (other_status (Stopped (Faulty (fault.Tape f))) Usage (λ e. omega (arith, e))))))
+    by_status (Stopped (Faulty (fault.File f))) e may =
+        absurd (wrong (sym (its (Stopped (Faulty (fault.File f))) may
+        (other_status (Stopped (Faulty (fault.File f))) Usage (λ e. omega (arith, e))))))
     by_status (Stopped TooLong) e may =
         absurd (wrong (sym (its (Stopped TooLong) may
         (other_status (Stopped TooLong) Usage (λ e. omega (arith, e))))))

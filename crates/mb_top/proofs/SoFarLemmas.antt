@@ -2,7 +2,7 @@
 use Rattle.std.proofs.Common.{◌≡◌, ℕ, true, false, List, [], ◌∷◌, ◌++◌, sym, ◌∙◌, ap, subst, IfSome}
 use Rattle.mb_message.specs.Front.{IsFront}
 use Rattle.mb_outside.specs.Contents.{Contents}
-use Rattle.mb_frames.specs.declared.tape.TapeFault.{TapeFault}
+use Rattle.mb_top.specs.declared.fault.Fault.{Fault}
 use Rattle.mb_stream.specs.Lacking.{Lacks}
 use Rattle.mb_stream.specs.MeaningFront.{IsMeaningFront}
 use Rattle.mb_carrier.specs.Carrier.{den}
@@ -15,21 +15,21 @@ use Rattle.mb_carrier.proofs.GrowLemmas.{live-grows, live-ends}
 use Rattle.mb_carrier.proofs.GrowSpecs.{grows}
 use Rattle.mb_carrier.proofs.LiveLemmas as live
 use Rattle.mb_words.specs.Command.{Command, Means}
-use Rattle.mb_top.specs.Output.{live_output_of}
+use Rattle.mb_top.specs.Output.{stopped_output_of}
 use Rattle.mb_top.specs.Answer.{Answered, EndsAs, taken_off, added_to, code_of, read_part}
 use Rattle.mb_top.specs.declared.status.Status.{Status}
 use Rattle.mb_top.specs.declared.status.Status.TheVariants.{Done, Noted, Usage, Cut, NoMemory, Stopped}
-use Rattle.mb_top.specs.declared.status.Stop.TheVariants.{ReadFault, Refused, TooLong, BadTape}
+use Rattle.mb_top.specs.declared.status.Stop.TheVariants.{ReadFault, Refused, TooLong, Faulty}
 
 wrong : false ≡ true → ⊥
 wrong e = cc
 
 -- a claim about a status before the end of the input, no write having failed
 before_the_end : (claim : Status → Type 0) → claim (Stopped ReadFault) → claim (Stopped TooLong) →
-    ((f : TapeFault) → claim (Stopped (BadTape f))) → (s : Status) → read_part (code_of s) ≡ true → claim s
+    ((f : Fault) → claim (Stopped (Faulty f))) → (s : Status) → read_part (code_of s) ≡ true → claim s
 before_the_end claim fault long bad (Stopped ReadFault) e = fault
 before_the_end claim fault long bad (Stopped TooLong) e = long
-before_the_end claim fault long bad (Stopped (BadTape f)) e = bad f
+before_the_end claim fault long bad (Stopped (Faulty f)) e = bad f
 before_the_end claim fault long bad (Stopped Refused) e = absurd (wrong e)
 before_the_end claim fault long bad Done e = absurd (wrong e)
 before_the_end claim fault long bad Noted e = absurd (wrong e)
@@ -40,11 +40,11 @@ before_the_end claim fault long bad NoMemory e = absurd (wrong e)
 pub live_written : (words : List (List ℕ)) (limit : ℕ) (before after : Contents) (faults faults_now answer : ℕ)
     (c : Command) →
     read_part answer ≡ true → Means words c → (a : Answered words limit before after faults faults_now answer) →
-    added_to 1 before after ≡ live_output_of c (taken_off 0 before after)
+    added_to 1 before after ≡ stopped_output_of c (taken_off 0 before after)
 live_written words limit before after faults faults_now answer c part m a =
     before_the_end
     (λ s. EndsAs c limit (before.left 0) (taken_off 0 before after) (added_to 1 before after) a.tally s →
-    added_to 1 before after ≡ live_output_of c (taken_off 0 before after))
+    added_to 1 before after ≡ stopped_output_of c (taken_off 0 before after))
     (λ ends. ends.0) (λ ends. ends.1) (λ f ends. ends.0) a.status (sym (ap read_part a.number) ∙ part) (a.did c m).ends
 
 pub so_far-lacks : (first : Spec) (between : List Spec) (last : Spec) (read written : List ℕ) →

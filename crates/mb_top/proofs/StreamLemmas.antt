@@ -12,16 +12,23 @@ use Rattle.mb_carrier.proofs.Fronts.{front-then}
 use Rattle.mb_carrier.proofs.GrowSpecs.{grows}
 use Rattle.std.specs.Prelude.{Option, Some, None}
 use Rattle.mb_frames.specs.declared.tape.TapeFault.{TapeFault}
+use Rattle.mb_frames.specs.Tapes.{tape_fault}
+use Rattle.mb_smf.specs.Smf.{smf}
+use Rattle.mb_smf.specs.declared.fault.SmfFault.{SmfFault}
+use Rattle.mb_top.specs.declared.fault.Fault.{Fault}
+use Rattle.mb_top.specs.declared.fault.Fault.TheVariants as fault
+use Rattle.mb_top.specs.declared.status.Stop.{Stop}
 use Rattle.mb_top.proofs.ChainLemmas.{chain-none}
 use Rattle.mb_top.proofs.JobLemmas.{command-stays, command-closes}
-use Rattle.mb_words.specs.Command.{Command, Converting, Listing, Migrating, Selftesting}
-use Rattle.mb_top.specs.Output.{fault_of, output_of, is_whole, live_output_of, tally_of}
-use Rattle.mb_top.specs.Job.{JobFed, JobHalted, JobEnded, JobEndHalted, JobTold, JobTellHalted, Remarked}
-use Rattle.mb_top.specs.Answer.{EndsAs, DidAll, all_but_last, PIECE}
-use Rattle.mb_top.specs.Ran.{Ran, RanEnd, MayAnswer, at_end, written_of}
+use Rattle.mb_words.specs.Command.{Command, Converting, Listing, Migrating, PlayingFile, GuardingTape, Selftesting}
+use Rattle.mb_top.specs.Output.{fault_of, in_file, in_tape, output_of, is_whole, live_output_of, stopped_output_of}
+use Rattle.mb_top.specs.Output.{tally_of, writes_at_stop}
+use Rattle.mb_top.specs.Job.{JobFed, JobHalted, JobEnded, JobEndHalted, JobStopped, JobTold, JobTellHalted, Remarked}
+use Rattle.mb_top.specs.Answer.{EndsAs, DidAll, WroteFront, all_but_last, PIECE}
+use Rattle.mb_top.specs.Ran.{Ran, RanEnd, RanStop, Faulted, HasStopped, MayAnswer, at_end, written_of}
 use Rattle.mb_top.specs.declared.status.Status.{Status}
 use Rattle.mb_top.specs.declared.status.Status.TheVariants.{Stopped}
-use Rattle.mb_top.specs.declared.status.Stop.TheVariants.{ReadFault, Refused, TooLong, BadTape}
+use Rattle.mb_top.specs.declared.status.Stop.TheVariants.{ReadFault, Refused, TooLong, Faulty}
 
 not-true : (b : Bool) → true ≡ not b → b ≡ false
 not-true true e = cc
@@ -30,6 +37,15 @@ not-true false e = refl
 not-false : (b : Bool) → false ≡ not b → b ≡ true
 not-false true e = refl
 not-false false e = cc
+
+-- a tape's fault is none of a file, and the other way round
+no_file : (told : Option TapeFault) (f : SmfFault) → in_tape told ≡ Some (fault.File f) → ⊥
+no_file None f e = cc
+no_file (Some g) f e = cc
+
+no_tape : (told : Option SmfFault) (f : TapeFault) → in_file told ≡ Some (fault.Tape f) → ⊥
+no_tape None f e = cc
+no_tape (Some g) f e = cc
 
 -- these bytes were read, which have no fault, and what is known of them was written
 pub record SoFar (c : Command) (before now : Contents) (bytes : List ℕ) : Type 0 where
@@ -41,12 +57,16 @@ live-none : (c : Command) → live_output_of c [] ≡ []
 live-none (Converting tally first between last) = chain-none first between last
 live-none (Listing traced s) = ap (lines_known traced s) (grows s).nothing_known
 live-none Migrating = refl
+live-none PlayingFile = refl
+live-none (GuardingTape s) = refl
 live-none (Selftesting start count) = refl
 
 sound-none : (c : Command) → fault_of c [] ≡ None
 sound-none (Converting tally first between last) = refl
 sound-none (Listing traced s) = refl
 sound-none Migrating = refl
+sound-none PlayingFile = refl
+sound-none (GuardingTape s) = refl
 sound-none (Selftesting start count) = refl
 
 pub so_far-none : (c : Command) (before : Contents) → SoFar c before before []
@@ -124,60 +144,87 @@ quietly : (input output : List ℕ) (before now : Contents) →
 quietly input output before now e = e ∙ sym (after_write-none 2 (after_write 1 output (after_read 0
     (length input) before)))
 
--- between two pieces reading failed, or the limit was reached
-pub ran-read_fault : (c : Command) (limit : ℕ) (before now : Contents) (bytes : List ℕ) →
-    length bytes ≤ limit → SoFar c before now bytes → Ran c limit before now (Stopped ReadFault)
-ran-read_fault c limit before now bytes within s =
+-- the input was stopped: what the answer says if what is owed was written is a premise
+pub ran-stop : (c d : Command) (limit : ℕ) (before old now : Contents) (bytes : List ℕ) (stop : Stop) (status : Status) →
+    d ≡ c → length bytes ≤ limit → IsFront bytes (before.left 0) →
+    old ≡ after_write 1 (live_output_of c bytes) (after_read 0 (length bytes) before) →
+    RanStop d bytes stop old now status →
+    ((output : List ℕ) → output ≡ stopped_output_of c bytes →
+    EndsAs c limit (before.left 0) bytes output [] (Stopped stop)) →
+    Ran c limit before now status
+ran-stop c d limit before old now bytes stop status same within front wrote told claim =
+    let r : RanStop c bytes stop old now status
+    = subst (λ (x : Command). RanStop x bytes stop old now status) same told in
     record {
       input = bytes;
-      output = live_output_of c bytes;
+      output = live_output_of c bytes ++ r.output;
       tally = [];
-      contents =
-          quietly bytes _ before now s.contents;
-      front = s.front;
+      contents = quietly bytes _ before now
+          (r.contents ∙ (ap (after_write 1 r.output) wrote
+          ∙ after_write-twice 1 (live_output_of c bytes) r.output (after_read 0 (length bytes) before)));
+      front = front;
       within = within;
-      ends = (refl, refl, s.sound);
+      ends = elim r.ends [
+        | inl e ↦ subst
+            (λ (s : Status). EndsAs c limit (before.left 0) bytes (live_output_of c bytes ++ r.output) [] s) (sym e.0)
+            (claim (live_output_of c bytes ++ r.output) e.1)
+        | inr e ↦ subst
+            (λ (s : Status). EndsAs c limit (before.left 0) bytes (live_output_of c bytes ++ r.output) [] s) (sym e.0)
+            (wrote-part c bytes r.output e.1)
+      ];
     }
 
-pub ran-too_long : (c : Command) (limit : ℕ) (before now : Contents) (bytes : List ℕ) →
-    length bytes ≡ limit → SoFar c before now bytes → Ran c limit before now (Stopped TooLong)
-ran-too_long c limit before now bytes same s =
-    record {
-      input = bytes;
-      output = live_output_of c bytes;
-      tally = [];
-      contents =
-          quietly bytes _ before now s.contents;
-      front = s.front;
-      within = omega (arith, same);
-      ends =
-          (same, refl, refl, s.sound);
-    }
+-- between two pieces reading failed, or the limit was reached
+pub ran-read_fault : (c d : Command) (limit : ℕ) (before old now : Contents) (bytes : List ℕ) (status : Status) →
+    d ≡ c → length bytes ≤ limit → SoFar c before old bytes → RanStop d bytes ReadFault old now status →
+    Ran c limit before now status
+ran-read_fault c d limit before old now bytes status same within s told =
+    ran-stop c d limit before old now bytes ReadFault status same within s.front s.contents told
+    (λ output is. (is, refl, s.sound))
+
+pub ran-too_long : (c d : Command) (limit : ℕ) (before old now : Contents) (bytes : List ℕ) (status : Status) →
+    d ≡ c → length bytes ≡ limit → SoFar c before old bytes → RanStop d bytes TooLong old now status →
+    Ran c limit before now status
+ran-too_long c d limit before old now bytes status same all s told =
+    ran-stop c d limit before old now bytes TooLong status same (omega (arith, all)) s.front s.contents told
+    (λ output is. (all, is, refl, s.sound))
 
 -- a piece has a fault, up to which it was written
-pub ran-bad_tape : (c : Command) (limit count : ℕ) (before old now : Contents) (bytes piece given : List ℕ)
-    (f : TapeFault) →
+pub ran-faulty : (c d : Command) (limit count : ℕ) (before old mid now : Contents) (bytes piece given : List ℕ)
+    (f : Fault) (status : Status) → d ≡ c →
     length piece ≡ count → length bytes + count ≤ limit → Read c before old bytes piece →
-    now ≡ after_write 1 given old → live_output_of c (bytes ++ piece) ≡ live_output_of c bytes ++ given →
-    fault_of c (bytes ++ piece) ≡ Some f → Ran c limit before now (Stopped (BadTape f))
-ran-bad_tape c limit count before old now bytes piece given f size within r wrote beyond fault_is =
-    record {
-      input = bytes ++ piece;
-      output = live_output_of c (bytes ++ piece);
-      tally = [];
-      contents = quietly (bytes ++ piece) _ before now
-          (written-more c before old now bytes piece given r wrote beyond);
-      front = r.front;
-      within = omega (arith, length-append bytes piece, size);
-      ends = (refl, refl, fault_is);
-    }
+    mid ≡ after_write 1 given old → live_output_of c (bytes ++ piece) ≡ live_output_of c bytes ++ given →
+    fault_of c (bytes ++ piece) ≡ Some f → RanStop d (bytes ++ piece) (Faulty f) mid now status →
+    Ran c limit before now status
+ran-faulty c d limit count before old mid now bytes piece given f status same size within r wrote beyond fault_is told =
+    ran-stop c d limit before mid now (bytes ++ piece) (Faulty f) status same
+    (omega (arith, length-append bytes piece, size)) r.front
+    (written-more c before old mid bytes piece given r wrote beyond) told (λ output is. (is, refl, fault_is))
 
-pub may-bad_tape : (c : Command) (input : List ℕ) (f : TapeFault) → fault_of c input ≡ Some f →
-    MayAnswer c (Stopped (BadTape f))
-may-bad_tape (Converting tally first between last) input f e = cc
-may-bad_tape (Listing traced s) input f e = cc
-may-bad_tape Migrating input f e = refl
-may-bad_tape (Selftesting start count) input f e = cc
+pub may-faulty : (c : Command) (input : List ℕ) (f : Fault) → fault_of c input ≡ Some f →
+    MayAnswer c (Stopped (Faulty f))
+may-faulty (Converting tally first between last) input f e = cc
+may-faulty (Listing traced s) input f e = cc
+may-faulty Migrating input (fault.Tape f) e = refl
+may-faulty Migrating input (fault.File f) e = absurd (no_file (tape_fault input) f e)
+may-faulty PlayingFile input (fault.File f) e = refl
+may-faulty PlayingFile input (fault.Tape f) e = absurd (no_tape ((smf input).fault) f e)
+may-faulty (GuardingTape s) input (fault.Tape f) e = refl
+may-faulty (GuardingTape s) input (fault.File f) e = absurd (no_file (tape_fault input) f e)
+may-faulty (Selftesting start count) input f e = cc
+
+-- how the stopping went, by what was handed over
+pub stop-ran : (c : Command) (bytes : List ℕ) (was : List ℕ → Type 0) (took : List ℕ → Type 0) (stop : Stop)
+    (before now : Contents) → was bytes → (s : JobStopped c was took) → now ≡ after_write 1 s.given before →
+    RanStop c bytes stop before now (Stopped stop)
+stop-ran c bytes was took stop before now stands s wrote =
+    record { output = s.given; contents = wrote; ends = inl (refl, sym (s.beyond bytes stands)) }
+
+pub stop-halted : (c : Command) (bytes : List ℕ) (was : List ℕ → Type 0) (took : List ℕ → Type 0) (stop : Stop)
+    (before now : Contents) → was bytes → (h : JobEndHalted c was took) → now ≡ after_write 1 h.given before →
+    RanStop c bytes stop before now (Stopped Refused)
+stop-halted c bytes was took stop before now stands h wrote =
+    record { output = h.given; contents = wrote; ends = inr (refl, h.part bytes stands) }
 
 -- the end was read
 pub at-end : (c : Command) (before old now : Contents) (bytes buffer : List ℕ) (count : ℕ) →
@@ -278,6 +325,18 @@ known-front : (c : Command) (bytes given : List ℕ) →
 known-front c bytes given = front-then _ _ _ (live-front c (all_but_last PIECE bytes) bytes (all_but_last-own bytes))
     (given, refl)
 
+-- a part of what all of the input gives was written
+wrote-part : (c : Command) (bytes given : List ℕ) → IsPart (live_output_of c bytes ++ given) (output_of c bytes) →
+    WroteFront c bytes (live_output_of c bytes ++ given) []
+wrote-part c bytes given part =
+    record {
+      front = part-front _ _ part;
+      at_least = known-front c bytes given;
+      tally_front = (tally_of c bytes, refl);
+      behind = inl refl;
+      unfinished = λ all told. part-differs _ _ part all;
+    }
+
 -- the end was refused
 pub end-halted : (c : Command) (before now : Contents) (bytes : List ℕ) (was : List ℕ → Type 0)
     (took : List ℕ → Type 0) →
@@ -288,13 +347,7 @@ end-halted c before now bytes was took stands h wrote =
       output = h.given;
       tally = [];
       contents = wrote ∙ sym (after_write-none 2 (after_write 1 h.given before));
-      ends = λ limit below sound. record {
-        front = part-front _ _ (h.part bytes stands);
-        at_least = known-front c bytes h.given;
-        tally_front = (tally_of c bytes, refl);
-        behind = inl refl;
-        unfinished = λ all told. part-differs _ _ (h.part bytes stands) all;
-      };
+      ends = λ limit below sound. wrote-part c bytes h.given (h.part bytes stands);
     }
 
 -- the tally was refused
@@ -352,11 +405,11 @@ ran-halted c limit count before old now bytes piece given size within few s wrot
     whole = part-within _ _ _ part (command-closes c (bytes ++ piece))
 
 -- what a job says, at the command that it began with
-pub fed-at : (d c : Command) (was now : List ℕ → Type 0) (piece : List ℕ) (fault other : Option TapeFault)
+pub fed-at : (d c : Command) (was now : List ℕ → Type 0) (piece : List ℕ) (fault other : Option Fault)
     (took : List ℕ → Type 0) → d ≡ c → fault ≡ other →
     JobFed d was now piece fault took → JobFed c was now piece other took
 fed-at d c was now piece fault other took same told f =
-    subst (λ (x : Option TapeFault). JobFed c was now piece x took) told
+    subst (λ (x : Option Fault). JobFed c was now piece x took) told
     (subst (λ (x : Command). JobFed x was now piece fault took) same f)
 
 pub halted-at : (d c : Command) (was : List ℕ → Type 0) (piece : List ℕ) (took : List ℕ → Type 0) → d ≡ c →
@@ -385,7 +438,7 @@ so_far-fed tells contents read_faults c was goes start old mid now bytes piece b
     told gives cut = (
       bytes ++ piece,
       omega (arith, length-append bytes piece, size, more),
-      f.stands refl bytes stands,
+      f.stands bytes stands,
       λ t. so_far-more c (contents start) (contents mid) (contents now) bytes piece f.given
           (read-piece c (contents start) (contents old) (contents mid) bytes buffer piece count (told t) (gives t) cut)
           (f.took_it.contents_are t) (f.beyond bytes stands) (f.fault_is bytes stands),

@@ -12,7 +12,8 @@ use Rattle.mb_frames.specs.declared.tape.TapeFault.{TapeFault}
 use Rattle.mb_frames.proofs.TapeLiteral.{tape-reads}
 use Rattle.mb_frames.proofs.MigratingLemmas.{after-split, fault-all, tape2-then}
 use Rattle.mb_words.specs.Command.{Migrating}
-use Rattle.mb_top.specs.Output.{is_whole}
+use Rattle.mb_top.specs.Output.{in_tape, is_whole}
+use Rattle.mb_top.specs.declared.fault.Fault.{Fault}
 use Rattle.mb_top.specs.Job.{job_command, JobStands, JobDone, JobFed, JobHalted, JobEnded, JobTold}
 use Rattle.mb_top.specs.declared.job.Job.{Job}
 use Rattle.mb_top.specs.declared.job.Job.TheVariants as job
@@ -27,15 +28,15 @@ behind tape bytes piece e = ap (λ (t : TapeState). after t piece) e ∙ sym (af
 
 fed-by : (tape now : TapeState) (piece : List ℕ) (fault : Option TapeFault) (took : List ℕ → Type 0) →
     now ≡ after tape piece → fault ≡ fault_in (ending_at (after tape piece)) → took (migrated_from tape piece) →
-    JobFed Migrating (Stands tape) (Stands now) piece fault took
+    JobFed Migrating (Stands tape) (Stands now) piece (in_tape fault) took
 fed-by tape now piece fault took state told given =
     record {
       given = migrated_from tape piece;
       took_it = given;
-      stands = λ none bytes h. (state ∙ behind tape bytes piece h.0, fault_at bytes h.0 ∙ none);
+      stands = λ bytes h. state ∙ behind tape bytes piece h;
       beyond = λ bytes h.
-          tape2-then bytes piece ∙ ap (λ (t : TapeState). tape2 bytes ++ migrated_from t piece) (sym h.0);
-      fault_is = λ bytes h. fault_at bytes h.0;
+          tape2-then bytes piece ∙ ap (λ (t : TapeState). tape2 bytes ++ migrated_from t piece) (sym h);
+      fault_is = λ bytes h. ap in_tape (fault_at bytes h);
     }
   where
     fault_at : (bytes : List ℕ) → tape ≡ after fresh bytes → tapes.tape_fault (bytes ++ piece) ≡ fault
@@ -43,30 +44,29 @@ fed-by tape now piece fault took state told given =
         fault-all (bytes ++ piece)
         ∙ (ap (λ (t : TapeState). fault_in (ending_at t)) (sym (behind tape bytes piece e)) ∙ sym told)
 
-pub job-tape_fed : {E : Type 0} (r : Result (Option TapeFault) E) (j : Job) (tape now : TapeState) (piece : List ℕ)
-    (took : List ℕ → Type 0) → j ≡ job.Migrate tape → OnOk r (now ≡ after tape piece) →
-    IfOk r (λ fault. fault ≡ fault_in (ending_at (after tape piece))) → OnOk r (took (migrated_from tape piece)) →
-    IfOk r (λ fault. JobFed (job_command j) (JobStands j) (JobStands (job.Migrate now)) piece fault took)
-job-tape_fed (Ok fault) j tape now piece took e state told given =
+pub job-tape_fed : (j : Job) (tape now : TapeState) (piece : List ℕ) (told : Option TapeFault) (fault : Option Fault)
+    (took : List ℕ → Type 0) → j ≡ job.Migrate tape → fault ≡ in_tape told → now ≡ after tape piece →
+    told ≡ fault_in (ending_at (after tape piece)) → took (migrated_from tape piece) →
+    JobFed (job_command j) (JobStands j) (JobStands (job.Migrate now)) piece fault took
+job-tape_fed j tape now piece told fault took e is state told_is given =
     subst (λ (k : Job). JobFed (job_command k) (JobStands k) (Stands now) piece fault took) (sym e)
-    (fed-by tape now piece fault took state told given)
-job-tape_fed (Err x) j tape now piece took e state told given = tt
+    (subst (λ (x : Option Fault). JobFed Migrating (Stands tape) (Stands now) piece x took) (sym is)
+    (fed-by tape now piece told took state told_is given))
 
-pub job-tape_halted : {T E : Type 0} (r : Result T E) (j : Job) (tape : TapeState) (piece : List ℕ)
-    (took : List ℕ → Type 0) → j ≡ job.Migrate tape →
-    OnErr r ((front : List ℕ) × IsPart front (migrated_from tape piece) × took front) →
-    OnErr r (JobHalted (job_command j) (JobStands j) piece took)
-job-tape_halted r j tape piece took e f =
-    subst (λ (k : Job). OnErr r (JobHalted (job_command k) (JobStands k) piece took)) (sym e)
-    (on_err_weaker r (λ front. record {
+pub job-tape_halted : (j : Job) (tape : TapeState) (piece : List ℕ) (took : List ℕ → Type 0) → j ≡ job.Migrate tape →
+    ((front : List ℕ) × IsPart front (migrated_from tape piece) × took front) →
+    JobHalted (job_command j) (JobStands j) piece took
+job-tape_halted j tape piece took e front =
+    subst (λ (k : Job). JobHalted (job_command k) (JobStands k) piece took) (sym e)
+    (record {
       given = front.0;
       took_it = front.2;
       part = λ bytes h.
           subst (IsPart (tape2 bytes ++ front.0))
           (sym (tape2-then bytes piece
-          ∙ ap (λ (t : TapeState). tape2 bytes ++ migrated_from t piece) (sym h.0)))
+          ∙ ap (λ (t : TapeState). tape2 bytes ++ migrated_from t piece) (sym h)))
           (part-behind (tape2 bytes) front.0 (migrated_from tape piece) front.1);
-    }) f)
+    })
 
 pub job-tape_ended : (j : Job) (tape : TapeState) (took : List ℕ → Type 0) → j ≡ job.Migrate tape → took [] →
     JobEnded (job_command j) (JobStands j) (JobDone j) false took
@@ -85,7 +85,7 @@ pub job-tape_cut : (j : Job) (tape : TapeState) (cut : Bool) (bytes : List ℕ) 
 job-tape_cut j tape cut bytes e h told =
     let stands : Stands tape bytes = subst (λ (k : Job). JobStands k bytes) e h in
     told
-    ∙ (ap (λ (t : TapeState). not (tapes.is_whole (ending_at t))) stands.0
+    ∙ (ap (λ (t : TapeState). not (tapes.is_whole (ending_at t))) stands
     ∙ (ap (λ (x : tapes.TapeEnd). not (tapes.is_whole x)) (tape-reads bytes).ending
     ∙ ap (λ (k : Job). not (is_whole (job_command k) bytes)) (sym e)))
 

@@ -4,18 +4,25 @@
 --   CommandRan c ..           the same, and a command that reads nothing read none
 --   RanEnd c bytes ..      the same at the end of an input of which what is known was written before
 --   RanWords words ..      the same for words, which may mean no command
---   Faulted ..             a fault of reading or writing came exactly where the status tells of one
+--   RanStop c bytes stop ..  the same where an input of which what is known was written is stopped
+--   HasStopped ..          how the stopping itself went
+--   Faulted quiet ..       a fault of reading or writing came exactly where the status tells of one, but for one of
+--                          reading where what was written behind it failed, which isn't so of a command that is quiet
 --   at_end cut noted       how a command ends at the end of its input
-use Rattle.std.specs.Prelude.{◌≡◌, ℕ, ◌<◌, ◌≤◌, Bool, true, false, List, [], ◌++◌, length, None}
+use Rattle.std.specs.Prelude.{◌≡◌, ℕ, ◌<◌, ◌≤◌, Bool, true, false, List, [], ◌++◌, length, None, ◌⊎◌}
 use Rattle.mb_outside.specs.Cause.{Rose}
 use Rattle.mb_outside.specs.Contents.{Contents, after_read, after_write}
 use Rattle.mb_message.specs.Front.{IsFront}
 use Rattle.mb_words.specs.Command.{Command, Means}
-use Rattle.mb_top.specs.Output.{live_output_of, may_want_memory, answers_notes, fault_of, reads_tape, reads_from}
+use Rattle.mb_message.specs.Front.{IsPart}
+use Rattle.mb_top.specs.Output.{live_output_of, output_of, stopped_output_of, may_want_memory, answers_notes, fault_of}
+use Rattle.mb_top.specs.Output.{reads_tape, reads_file, reads_from, writes_at_stop}
+use Rattle.mb_top.specs.declared.fault.Fault.TheVariants as fault
+use Rattle.mb_top.specs.declared.status.Stop.{Stop}
 use Rattle.mb_top.specs.Answer.{EndsAs}
 use Rattle.mb_top.specs.declared.status.Status.{Status}
 use Rattle.mb_top.specs.declared.status.Status.TheVariants.{Done, Noted, Usage, Cut, NoMemory, Stopped}
-use Rattle.mb_top.specs.declared.status.Stop.TheVariants.{ReadFault, Refused, BadTape, TooLong}
+use Rattle.mb_top.specs.declared.status.Stop.TheVariants.{ReadFault, Refused, Faulty, TooLong}
 
 -- standard input was read, standard output written, and a tally to standard error
 abbrev pub written_of : (input output tally : List ℕ) → Contents → Contents
@@ -45,12 +52,12 @@ pub record RanWords (words : List (List ℕ)) (limit : ℕ) (before after : Cont
   pub within : length input ≤ limit
   pub ends : (c : Command) → Means words c → EndsAs c limit (before.left 0) input output tally status
 
-pub record Faulted (reads reads_now writes writes_now : ℕ) (status : Status) : Type 0 where
+pub record Faulted (quiet : Type 0) (reads reads_now writes writes_now : ℕ) (status : Status) : Type 0 where
   pub reads_later : reads ≤ reads_now
   pub writes_later : writes ≤ writes_now
   pub read : status ≡ Stopped ReadFault → Rose reads reads_now
   pub write : status ≡ Stopped Refused → Rose writes writes_now
-  pub unread : (status ≡ Stopped ReadFault → ⊥) → reads_now ≡ reads
+  pub unread : (status ≡ Stopped ReadFault → ⊥) → (status ≡ Stopped Refused → quiet) → reads_now ≡ reads
   pub unwritten : (status ≡ Stopped Refused → ⊥) → writes_now ≡ writes
 
 abbrev pub at_end : (cut noted : Bool) → Status
@@ -66,8 +73,22 @@ pub record RanEnd (c : Command) (bytes : List ℕ) (before after : Contents) (st
   pub ends : (limit : ℕ) → length bytes < limit → fault_of c bytes ≡ None →
       EndsAs c limit bytes bytes (live_output_of c bytes ++ output) tally status
 
+-- an input was stopped: what is owed then was written, or a part of what all of it gives
+pub record RanStop (c : Command) (bytes : List ℕ) (stop : Stop) (before after : Contents) (status : Status) : Type 0
+  where
+    pub output : List ℕ
+    pub contents : after ≡ after_write 1 output before
+    pub ends : ((status ≡ Stopped stop) × (live_output_of c bytes ++ output ≡ stopped_output_of c bytes))
+        ⊎ ((status ≡ Stopped Refused) × IsPart (live_output_of c bytes ++ output) (output_of c bytes))
+
+-- it ends as it was stopped, or because what it still wrote was refused
+abbrev pub HasStopped : Command → Stop → (writes writes_now : ℕ) → Status → Type 0
+HasStopped c stop writes writes_now status =
+    ((status ≡ Stopped stop) × (writes_now ≡ writes))
+    ⊎ ((status ≡ Stopped Refused) × Rose writes writes_now × (writes_at_stop c ≡ true))
+
 -- want of memory is answered of commands alone that may want it, notes of `check` alone, what may be wrong of an input
--- of those that read one, and a fault of a tape of those that read a tape
+-- of those that read one, and a fault of a tape or of a file of those that read one
 abbrev pub MayAnswer : Command → Status → Type 0
 MayAnswer c Usage = ⊥
 MayAnswer c NoMemory = may_want_memory c ≡ true
@@ -75,7 +96,8 @@ MayAnswer c Noted = answers_notes c ≡ true
 MayAnswer c Cut = reads_from c 0 ≡ true
 MayAnswer c (Stopped ReadFault) = reads_from c 0 ≡ true
 MayAnswer c (Stopped TooLong) = reads_from c 0 ≡ true
-MayAnswer c (Stopped (BadTape f)) = reads_tape c ≡ true
+MayAnswer c (Stopped (Faulty (fault.Tape f))) = reads_tape c ≡ true
+MayAnswer c (Stopped (Faulty (fault.File f))) = reads_file c ≡ true
 MayAnswer c _ = Unit {0}
 
 pub record MayAnswerWords (words : List (List ℕ)) (status : Status) : Type 0 where

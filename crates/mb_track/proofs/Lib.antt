@@ -5,3 +5,4 @@ pub mod FrontLemmas
 pub mod RisingRecords
 pub mod EndLemmas
 mod Examples
+pub mod GrowLemmas

@@ -19,6 +19,12 @@ pub fn records_cut_anywhere()
     ensures suit { (s : Spec) (track : ℕ) (tape : List ℕ) → suited (signs_in (track_marks s track tape)) ≡ true }
 {}
 
+/// While a tape goes on, its marks so far stay.
+pub fn tracks_grow()
+    ensures { (s : Spec) (track : ℕ) (tape more : List ℕ) →
+        IsFront (track_marks_so_far s track tape) (track_marks_so_far s track (tape ++ more)) }
+{}
+
 /// Behind all marks of a tape no SysEx is open, and where no record begins nothing is left for the end.
 pub fn tracks_end()
     ensures closed { (s : Spec) (track : ℕ) (tape : List ℕ) →

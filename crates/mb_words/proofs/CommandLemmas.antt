@@ -7,8 +7,11 @@ use Rattle.mb_carrier.specs.Word.{IsWordOf, IsSpec, AreSpecs}
 use Rattle.mb_carrier.specs.declared.spec.Spec.{Spec}
 use Rattle.mb_carrier.specs.declared.spec.Spec.TheVariants.{Din, Usb, Fire, Ble}
 use Rattle.mb_carrier.proofs.WordLemmas.{one_spec, word-is_spec, first_letter, size-letter}
-use Rattle.mb_words.specs.Command.{Command, Converting, Listing, Migrating, Means, AreWordsOf, name_of, asks_tally}
-use Rattle.mb_words.specs.Command.{specs_of, Selftesting, options_of}
+use Rattle.std.specs.Prelude.{Option, Some, None}
+use Rattle.mb_words.specs.Command.{Command, Converting, Listing, Migrating, RecordingTape, PlayingFile, GuardingTape}
+use Rattle.mb_words.specs.Command.{Selftesting, CommandName, ToConvert, ToTrace, ToCheck, ToMigrate, ToRecord, ToPlay}
+use Rattle.mb_words.specs.Command.{ToGuard, ToSelftest, Means, AreWordsOf, name_word, command_name, name_of, asks_tally}
+use Rattle.mb_words.specs.Command.{specs_of, options_of}
 use Rattle.mb_words.specs.Meaning.{front_of, end_of, converting}
 
 pub heads : (x y : List ℕ) (xs ys : List (List ℕ)) → x ∷ xs ≡ y ∷ ys → x ≡ y
@@ -83,18 +86,50 @@ same_behind false false words more ss ts e m n =
 same_behind true false words more ss ts e m n = absurd (no_tally more words ts (sym e) n)
 same_behind false true words more ss ts e m n = absurd (no_tally words more ss e m)
 
+-- a name is told by its word
+
+abbrev named : List ℕ → Option CommandName
+named w =
+    if bytes_eq w (codes "convert") then Some ToConvert
+    else (if bytes_eq w (codes "trace") then Some ToTrace
+    else (if bytes_eq w (codes "check") then Some ToCheck
+    else (if bytes_eq w (codes "migrate") then Some ToMigrate
+    else (if bytes_eq w (codes "record") then Some ToRecord
+    else (if bytes_eq w (codes "play") then Some ToPlay
+    else (if bytes_eq w (codes "guard") then Some ToGuard
+    else (if bytes_eq w (codes "selftest") then Some ToSelftest else None)))))))
+
+named_again : (n : CommandName) → named (name_word n) ≡ Some n
+named_again ToConvert = refl
+named_again ToTrace = refl
+named_again ToCheck = refl
+named_again ToMigrate = refl
+named_again ToRecord = refl
+named_again ToPlay = refl
+named_again ToGuard = refl
+named_again ToSelftest = refl
+
+same_some : (m n : CommandName) → Some m ≡ Some n → m ≡ n
+same_some m n e = cc
+
+pub same_name : (m n : CommandName) → name_word m ≡ name_word n → m ≡ n
+same_name m n e = same_some m n (sym (named_again m) ∙ (ap named e ∙ named_again n))
+
 -- a command is given by its name, its option and its specs
 
 abbrev first_of : List Spec → Spec
 first_of [] = Din
 first_of (s ∷ specs) = s
 
-abbrev rebuilt : (name : List ℕ) (tally : Bool) (specs : List Spec) → Command
-rebuilt name tally specs =
-    if bytes_eq name (codes "convert") then converting tally specs
-    else (if bytes_eq name (codes "trace") then Listing true (first_of specs)
-    else (if bytes_eq name (codes "migrate") then Migrating
-    else Listing false (first_of specs)))
+abbrev rebuilt : CommandName → (tally : Bool) (specs : List Spec) → Command
+rebuilt ToConvert tally specs = converting tally specs
+rebuilt ToTrace tally specs = Listing true (first_of specs)
+rebuilt ToCheck tally specs = Listing false (first_of specs)
+rebuilt ToMigrate tally specs = Migrating
+rebuilt ToRecord tally specs = RecordingTape (first_of specs)
+rebuilt ToPlay tally specs = PlayingFile
+rebuilt ToGuard tally specs = GuardingTape (first_of specs)
+rebuilt ToSelftest tally specs = Selftesting 0 0
 
 front_again : (s : Spec) (between : List Spec) (last : Spec) → front_of s (between ++ last ∷ []) ≡ s ∷ between
 front_again s [] last = refl
@@ -117,47 +152,63 @@ abbrev HasSpecs : Command → Type 0
 HasSpecs (Converting tally first between last) = Unit {0}
 HasSpecs (Listing traced s) = Unit {0}
 HasSpecs Migrating = Unit {0}
+HasSpecs (RecordingTape s) = Unit {0}
+HasSpecs PlayingFile = Unit {0}
+HasSpecs (GuardingTape s) = Unit {0}
 HasSpecs (Selftesting start count) = ⊥
 
-again : (c : Command) → HasSpecs c → rebuilt (name_of c) (asks_tally c) (specs_of c) ≡ c
+again : (c : Command) → HasSpecs c → rebuilt (command_name c) (asks_tally c) (specs_of c) ≡ c
 again (Converting tally first between last) h = converting_again tally first between last
 again (Listing true s) h = refl
 again (Listing false s) h = refl
 again Migrating h = refl
+again (RecordingTape s) h = refl
+again PlayingFile h = refl
+again (GuardingTape s) h = refl
 again (Selftesting start count) h = absurd h
 
 options_are : (c : Command) → HasSpecs c → options_of c ≡ options (asks_tally c)
 options_are (Converting tally first between last) h = refl
 options_are (Listing traced s) h = refl
 options_are Migrating h = refl
+options_are (RecordingTape s) h = refl
+options_are PlayingFile h = refl
+options_are (GuardingTape s) h = refl
 options_are (Selftesting start count) h = absurd h
+
+-- the same words have the same name
+names_agree : (words : List (List ℕ)) (c d : Command) → Means words c → Means words d →
+    command_name c ≡ command_name d
+names_agree words c d m n = same_name (command_name c) (command_name d)
+    (heads _ _ _ _ (sym m.words_are ∙ n.words_are))
 
 one_of_specs : (words : List (List ℕ)) (c d : Command) → HasSpecs c → HasSpecs d → Means words c → Means words d → c ≡ d
 one_of_specs words c d h k m n =
     let same = sym m.words_are ∙ n.words_are in
-    let name : name_of c ≡ name_of d = heads _ _ _ _ same in
     let behind = same_behind (asks_tally c) (asks_tally d) m.arguments n.arguments (specs_of c) (specs_of d)
     (ap (λ (ws : List (List ℕ)). ws ++ m.arguments) (sym (options_are c h))
     ∙ (tails _ _ _ _ same ∙ ap (λ (ws : List (List ℕ)). ws ++ n.arguments) (options_are d k)))
     m.are_specs n.are_specs in
     sym (again c h)
-    ∙ (ap (λ (x : List ℕ). rebuilt x (asks_tally c) (specs_of c)) name
-    ∙ (ap (λ (t : Bool). rebuilt (name_of d) t (specs_of c)) behind.0
-    ∙ (ap (λ (specs : List Spec). rebuilt (name_of d) (asks_tally d) specs) behind.1 ∙ again d k)))
+    ∙ (ap (λ (x : CommandName). rebuilt x (asks_tally c) (specs_of c)) (names_agree words c d m n)
+    ∙ (ap (λ (t : Bool). rebuilt (command_name d) t (specs_of c)) behind.0
+    ∙ (ap (λ (specs : List Spec). rebuilt (command_name d) (asks_tally d) specs) behind.1 ∙ again d k)))
 
 -- a self-test
 
-pub selftest_letter : (c : Command) → HasSpecs c → name_of c ≡ codes "selftest" → ⊥
-selftest_letter (Converting tally first between last) h e =
-    (let differ : 99 ≡ 115 = ap first_letter e in omega (arith, differ))
-selftest_letter (Listing true s) h e = (let differ : 116 ≡ 115 = ap first_letter e in omega (arith, differ))
-selftest_letter (Listing false s) h e = (let differ : 99 ≡ 115 = ap first_letter e in omega (arith, differ))
-selftest_letter Migrating h e = (let differ : 109 ≡ 115 = ap first_letter e in omega (arith, differ))
-selftest_letter (Selftesting start count) h e = h
+not_selftest : (c : Command) → HasSpecs c → command_name c ≡ ToSelftest → ⊥
+not_selftest (Converting tally first between last) h e = cc
+not_selftest (Listing true s) h e = cc
+not_selftest (Listing false s) h e = cc
+not_selftest Migrating h e = cc
+not_selftest (RecordingTape s) h e = cc
+not_selftest PlayingFile h e = cc
+not_selftest (GuardingTape s) h e = cc
+not_selftest (Selftesting start count) h e = h
 
 no_selftest : (words : List (List ℕ)) (c : Command) (start count : ℕ) → HasSpecs c → Means words c →
     Means words (Selftesting start count) → ⊥
-no_selftest words c start count h m n = selftest_letter c h (heads _ _ _ _ (sym m.words_are ∙ n.words_are))
+no_selftest words c start count h m n = not_selftest c h (names_agree words c (Selftesting start count) m n)
 
 same_selftest : (words : List (List ℕ)) (start count other others : ℕ) → Means words (Selftesting start count) →
     Means words (Selftesting other others) → Selftesting start count ≡ Selftesting other others
@@ -178,6 +229,9 @@ form : (c : Command) → HasSpecs c ⊎ IsSelftest c
 form (Converting tally first between last) = inl tt
 form (Listing traced s) = inl tt
 form Migrating = inl tt
+form (RecordingTape s) = inl tt
+form PlayingFile = inl tt
+form (GuardingTape s) = inl tt
 form (Selftesting start count) = inr (start, count, refl)
 
 pub one_command : (words : List (List ℕ)) (c d : Command) → Means words c → Means words d → c ≡ d

@@ -5,10 +5,12 @@ use Rattle.std.specs.Prelude.{slice_get, slice_index_or, Option, Some, None, IfN
 use Rattle.std.proofs.lemmas.List.{length-drop, append-nil}
 use Rattle.mb_carrier.specs.Word.{IsWordOf}
 use Rattle.mb_carrier.specs.declared.spec.Spec.{Spec}
-use Rattle.mb_words.specs.Command.{Command, Converting, Listing, Migrating, Means, AreWordsOf, name_of, listing_word}
-use Rattle.mb_words.specs.Command.{Selftesting}
+use Rattle.mb_words.specs.Command.{Command, Converting, Listing, Migrating, RecordingTape, PlayingFile, GuardingTape}
+use Rattle.mb_words.specs.Command.{Selftesting, CommandName, ToConvert, ToTrace, ToCheck, ToMigrate, ToRecord, ToPlay}
+use Rattle.mb_words.specs.Command.{ToGuard, ToSelftest, Means, AreWordsOf, IsAlone, IsBuilt, name_word, listing_name}
+use Rattle.mb_words.specs.Command.{command_name, name_of, options_of, specs_of}
 use Rattle.mb_words.specs.Meaning.{converting, place_of_specs}
-use Rattle.mb_words.proofs.CommandLemmas.{as_many, no_tally, specs_again, front_length}
+use Rattle.mb_words.proofs.CommandLemmas.{as_many, no_tally, same_name, specs_again, front_length}
 
 -- places
 
@@ -71,21 +73,140 @@ first_word words w c m e = some-same w (name_of c) (sym e ∙ ap (λ (xs : List 
 pub no_words : (words : List (List ℕ)) (c : Command) → Means words c → length words ≡ 0 → ⊥
 no_words words c m e = omega (arith, e, ap length m.words_are)
 
-abbrev letter_at : (place : ℕ) → List ℕ → ℕ
-letter_at place letters = slice_index_or letters place 0
+pub name-at : (words : List (List ℕ)) (n : CommandName) (c : Command) → slice_get words 0 ≡ Some (name_word n) →
+    Means words c → command_name c ≡ n
+name-at words n c e m = sym (same_name n (command_name c) (first_word words (name_word n) c m e))
 
+-- the name is none of these
 pub no_name : (words : List (List ℕ)) (w : List ℕ) (c : Command) → slice_get words 0 ≡ Some w →
+    ((n : CommandName) → w ≡ name_word n → ⊥) → Means words c → ⊥
+no_name words w c e none m = none (command_name c) (first_word words w c m e)
+
+pub no_name-by : (w : List ℕ) →
     (w ≡ codes "convert" → ⊥) → (w ≡ codes "trace" → ⊥) → (w ≡ codes "check" → ⊥) → (w ≡ codes "migrate" → ⊥) →
-    (w ≡ codes "selftest" → ⊥) → Means words c → ⊥
-no_name words w (Converting tally first between last) e convert trace check migrate selftest m = convert
-    (first_word words w (Converting tally first between last) m e)
-no_name words w (Listing true s) e convert trace check migrate selftest m =
-    trace (first_word words w (Listing true s) m e)
-no_name words w (Listing false s) e convert trace check migrate selftest m =
-    check (first_word words w (Listing false s) m e)
-no_name words w Migrating e convert trace check migrate selftest m = migrate (first_word words w Migrating m e)
-no_name words w (Selftesting start count) e convert trace check migrate selftest m =
-    selftest (first_word words w (Selftesting start count) m e)
+    (w ≡ codes "record" → ⊥) → (w ≡ codes "play" → ⊥) → (w ≡ codes "guard" → ⊥) → (w ≡ codes "selftest" → ⊥) →
+    (n : CommandName) → w ≡ name_word n → ⊥
+no_name-by w convert trace check migrate record_tape play guard selftest ToConvert = convert
+no_name-by w convert trace check migrate record_tape play guard selftest ToTrace = trace
+no_name-by w convert trace check migrate record_tape play guard selftest ToCheck = check
+no_name-by w convert trace check migrate record_tape play guard selftest ToMigrate = migrate
+no_name-by w convert trace check migrate record_tape play guard selftest ToRecord = record_tape
+no_name-by w convert trace check migrate record_tape play guard selftest ToPlay = play
+no_name-by w convert trace check migrate record_tape play guard selftest ToGuard = guard
+no_name-by w convert trace check migrate record_tape play guard selftest ToSelftest = selftest
+
+-- a name and specs
+
+pub plain-means : (words : List (List ℕ)) (c : Command) → slice_get words 0 ≡ Some (name_of c) → options_of c ≡ [] →
+    AreWordsOf (drop 1 words) (specs_of c) → IsBuilt c → Means words c
+plain-means words c name none are built =
+    record {
+      arguments = drop 1 words;
+      words_are = begins words (name_of c) name
+          ∙ ap (λ (xs : List (List ℕ)). name_of c ∷ (xs ++ drop 1 words)) (sym none);
+      are_specs = are;
+      built = built;
+    }
+
+pub plain-only : (words : List (List ℕ)) (c : Command) → options_of c ≡ [] → Means words c →
+    AreWordsOf (drop 1 words) (specs_of c)
+plain-only words c none m =
+    subst (λ (xs : List (List ℕ)). AreWordsOf xs (specs_of c))
+    (sym (ap (drop 1) m.words_are ∙ ap (λ (xs : List (List ℕ)). xs ++ m.arguments) none)) m.are_specs
+
+pub one_word : (words : List (List ℕ)) (w : List ℕ) (s : Spec) → length words ≡ 2 → slice_get words 1 ≡ Some w →
+    IsWordOf w s → AreWordsOf (drop 1 words) (s ∷ [])
+one_word words w s two word is =
+    subst (λ (xs : List (List ℕ)). AreWordsOf xs (s ∷ []))
+    (sym (drop-at words 1 w word
+    ∙ ap (λ (xs : List (List ℕ)). w ∷ xs) (none_left (drop 2 words) (omega (arith, two, length-drop 2 words)))))
+    (is, tt)
+
+pub word_count : (words : List (List ℕ)) (s : Spec) → AreWordsOf (drop 1 words) (s ∷ []) → length words ≡ 2
+word_count words s are =
+    let one = as_many (drop 1 words) (s ∷ []) are in omega (arith, one, length-drop 1 words)
+
+pub word-is : (words : List (List ℕ)) (w : List ℕ) (s : Spec) → slice_get words 1 ≡ Some w →
+    AreWordsOf (drop 1 words) (s ∷ []) → IsWordOf w s
+word-is words w s e are =
+    (subst (λ (xs : List (List ℕ)). AreWordsOf xs (s ∷ [])) (drop-at words 1 w e) are).0
+
+-- a command that is its name alone
+
+pub alone-means : (words : List (List ℕ)) (c : Command) → slice_get words 0 ≡ Some (name_of c) → IsAlone c →
+    length words ≡ 1 → Means words c
+alone-means words c name alone one =
+    plain-means words c name alone.no_options
+    (subst (λ (xs : List (List ℕ)). AreWordsOf xs (specs_of c))
+    (sym (none_left (drop 1 words) (omega (arith, one, length-drop 1 words))))
+    (subst (AreWordsOf []) (sym alone.no_specs) tt)) alone.built
+
+-- the names of commands that are it alone
+abbrev is_alone_name : CommandName → Bool
+is_alone_name ToConvert = false
+is_alone_name ToTrace = false
+is_alone_name ToCheck = false
+is_alone_name ToMigrate = true
+is_alone_name ToRecord = false
+is_alone_name ToPlay = true
+is_alone_name ToGuard = false
+is_alone_name ToSelftest = false
+
+alone-name : (c : Command) → IsAlone c → is_alone_name (command_name c) ≡ true
+alone-name (Converting tally first between last) a = (let e = a.no_specs in cc)
+alone-name (Listing traced s) a = (let e = a.no_specs in cc)
+alone-name Migrating a = refl
+alone-name (RecordingTape s) a = (let e = a.no_specs in cc)
+alone-name PlayingFile a = refl
+alone-name (GuardingTape s) a = (let e = a.no_specs in cc)
+alone-name (Selftesting start count) a = (let e = a.no_options in cc)
+
+alone-length : (words : List (List ℕ)) (c : Command) → is_alone_name (command_name c) ≡ true → Means words c →
+    length words ≡ 1
+alone-length words (Converting tally first between last) e m = cc
+alone-length words (Listing true s) e m = cc
+alone-length words (Listing false s) e m = cc
+alone-length words Migrating e m =
+    let none = as_many m.arguments [] m.are_specs in omega (arith, ap length m.words_are, none)
+alone-length words (RecordingTape s) e m = cc
+alone-length words PlayingFile e m =
+    let none = as_many m.arguments [] m.are_specs in omega (arith, ap length m.words_are, none)
+alone-length words (GuardingTape s) e m = cc
+alone-length words (Selftesting start count) e m = cc
+
+pub only_alone : (words : List (List ℕ)) (c d : Command) → slice_get words 0 ≡ Some (name_of d) → IsAlone d →
+    Means words c → length words ≡ 1
+only_alone words c d name alone m =
+    alone-length words c (ap is_alone_name (name-at words (command_name d) c name m) ∙ alone-name d alone) m
+
+-- the names of commands with one spec and nothing else
+abbrev pub has_lone_spec : CommandName → Bool
+has_lone_spec ToConvert = false
+has_lone_spec ToTrace = true
+has_lone_spec ToCheck = true
+has_lone_spec ToMigrate = false
+has_lone_spec ToRecord = true
+has_lone_spec ToPlay = false
+has_lone_spec ToGuard = true
+has_lone_spec ToSelftest = false
+
+lone-spec : (words : List (List ℕ)) (c : Command) → has_lone_spec (command_name c) ≡ true → Means words c →
+    (s : Spec) × AreWordsOf (drop 1 words) (s ∷ [])
+lone-spec words (Converting tally first between last) e m = cc
+lone-spec words (Listing traced s) e m = (s, plain-only words (Listing traced s) refl m)
+lone-spec words Migrating e m = cc
+lone-spec words (RecordingTape s) e m = (s, plain-only words (RecordingTape s) refl m)
+lone-spec words PlayingFile e m = cc
+lone-spec words (GuardingTape s) e m = (s, plain-only words (GuardingTape s) refl m)
+lone-spec words (Selftesting start count) e m = cc
+
+pub only_lone_spec : (words : List (List ℕ)) (c : Command) (n : CommandName) → has_lone_spec n ≡ true →
+    slice_get words 0 ≡ Some (name_word n) → Means words c → (s : Spec) × AreWordsOf (drop 1 words) (s ∷ [])
+only_lone_spec words c n lone name m = lone-spec words c (ap has_lone_spec (name-at words n c name m) ∙ lone) m
+
+pub listing-lone : (traced : Bool) → has_lone_spec (listing_name traced) ≡ true
+listing-lone true = refl
+listing-lone false = refl
 
 -- a self-test
 
@@ -136,76 +257,17 @@ is_selftest words start count m =
 
 pub only_selftest : (words : List (List ℕ)) (c : Command) → slice_get words 0 ≡ Some (codes "selftest") →
     Means words c → IsSelftest words
-only_selftest words (Selftesting start count) e m = is_selftest words start count m
-only_selftest words (Converting tally first between last) e m =
-    (let differ : 115 ≡ 99 = ap (letter_at 0)
-    (first_word words (codes "selftest") (Converting tally first between last) m e) in absurd (omega (arith, differ)))
-only_selftest words Migrating e m =
-    (let differ : 115 ≡ 109 = ap (letter_at 0) (first_word words (codes "selftest") Migrating m e) in absurd
-    (omega (arith, differ)))
-only_selftest words (Listing true s) e m =
-    (let differ : 115 ≡ 116 = ap (letter_at 0) (first_word words (codes "selftest") (Listing true s) m e) in absurd
-    (omega (arith, differ)))
-only_selftest words (Listing false s) e m =
-    (let differ : 115 ≡ 99 = ap (letter_at 0) (first_word words (codes "selftest") (Listing false s) m e) in absurd
-    (omega (arith, differ)))
-
--- a listing
-
-pub listing-means : (words : List (List ℕ)) (traced : Bool) (w : List ℕ) (s : Spec) → length words ≡ 2 →
-    slice_get words 0 ≡ Some (listing_word traced) → slice_get words 1 ≡ Some w → IsWordOf w s →
-    Means words (Listing traced s)
-listing-means words traced w s two name word is =
-    record {
-      arguments = w ∷ [];
-      words_are = begins_twice words (listing_word traced) w name word
-          ∙ ap (λ (xs : List (List ℕ)). listing_word traced ∷ w ∷ xs)
-          (none_left (drop 2 words) (omega (arith, two, length-drop 2 words)));
-      are_specs = (is, tt);
-      built = tt;
-    }
-
-pub record IsListing (words : List (List ℕ)) : Type 0 where
-  pub two : length words ≡ 2
-  pub spec : Spec
-  pub word : (w : List ℕ) → slice_get words 1 ≡ Some w → IsWordOf w spec
-
-word_alone : (w : List ℕ) (words : List (List ℕ)) (s : Spec) → words ≡ w ∷ [] → AreWordsOf words (s ∷ []) → IsWordOf w s
-word_alone w words s e a = (subst (λ (xs : List (List ℕ)). AreWordsOf xs (s ∷ [])) e a).0
-
-is_listing : (words : List (List ℕ)) (traced : Bool) (s : Spec) → Means words (Listing traced s) → IsListing words
-is_listing words traced s m =
-    let one = as_many m.arguments (s ∷ []) m.are_specs in
-    record {
-      two = omega (arith, ap length m.words_are, one);
-      spec = s;
-      word = λ w e. word_alone w m.arguments s
-          (single m.arguments w one (sym (ap (λ (xs : List (List ℕ)). slice_get xs 1) m.words_are) ∙ e)) m.are_specs;
-    }
-
-pub only_listing : (words : List (List ℕ)) (traced : Bool) (c : Command) →
-    slice_get words 0 ≡ Some (listing_word traced) → Means words c → IsListing words
-only_listing words true (Converting tally first between last) e m =
-    (let differ : 116 ≡ 99 = ap (letter_at 0)
-    (first_word words (listing_word true) (Converting tally first between last) m e) in absurd
-    (omega (arith, differ)))
-only_listing words false (Converting tally first between last) e m =
-    (let differ : 104 ≡ 111 = ap (letter_at 1)
-    (first_word words (listing_word false) (Converting tally first between last) m e) in absurd
-    (omega (arith, differ)))
-only_listing words traced (Listing v s) e m = is_listing words v s m
-only_listing words true Migrating e m =
-    (let differ : 116 ≡ 109 = ap (letter_at 0) (first_word words (listing_word true) Migrating m e) in absurd
-    (omega (arith, differ)))
-only_listing words false Migrating e m =
-    (let differ : 99 ≡ 109 = ap (letter_at 0) (first_word words (listing_word false) Migrating m e) in absurd
-    (omega (arith, differ)))
-only_listing words true (Selftesting start count) e m =
-    (let differ : 116 ≡ 115 = ap (letter_at 0) (first_word words (listing_word true) (Selftesting start count) m e) in
-    absurd (omega (arith, differ)))
-only_listing words false (Selftesting start count) e m =
-    (let differ : 99 ≡ 115 = ap (letter_at 0) (first_word words (listing_word false) (Selftesting start count) m e) in
-    absurd (omega (arith, differ)))
+only_selftest words c e m = by_name c (name-at words ToSelftest c e m) m
+  where
+    by_name : (d : Command) → command_name d ≡ ToSelftest → Means words d → IsSelftest words
+    by_name (Selftesting start count) same n = is_selftest words start count n
+    by_name (Converting tally first between last) same n = cc
+    by_name (Listing true s) same n = cc
+    by_name (Listing false s) same n = cc
+    by_name Migrating same n = cc
+    by_name (RecordingTape s) same n = cc
+    by_name PlayingFile same n = cc
+    by_name (GuardingTape s) same n = cc
 
 -- a conversion
 
@@ -269,46 +331,17 @@ pub only_conversion : (words : List (List ℕ)) (tally : Bool) (c : Command) →
     slice_get words 0 ≡ Some (codes "convert") →
     (tally ≡ true → slice_get words 1 ≡ Some (codes "tally")) →
     (tally ≡ false → slice_get words 1 ≡ Some (codes "tally") → ⊥) → Means words c → IsConversion words tally
-only_conversion words tally
-    (Converting v first between last) e asked unasked m = is_conversion words tally v first between last asked unasked m
-only_conversion words tally (Listing true s) e asked unasked m =
-    (let differ : 99 ≡ 116 = ap (letter_at 0) (first_word words (codes "convert") (Listing true s) m e) in absurd
-    (omega (arith, differ)))
-only_conversion words tally (Listing false s) e asked unasked m =
-    (let differ : 111 ≡ 104 = ap (letter_at 1) (first_word words (codes "convert") (Listing false s) m e) in absurd
-    (omega (arith, differ)))
-only_conversion words tally Migrating e asked unasked m =
-    (let differ : 99 ≡ 109 = ap (letter_at 0) (first_word words (codes "convert") Migrating m e) in absurd
-    (omega (arith, differ)))
-only_conversion words tally (Selftesting start count) e asked unasked m =
-    (let differ : 99 ≡ 115 = ap (letter_at 0) (first_word words (codes "convert") (Selftesting start count) m e) in
-    absurd (omega (arith, differ)))
-
--- a migration
-
-pub migration-means : (words : List (List ℕ)) → slice_get words 0 ≡ Some (codes "migrate") → length words ≡ 1 →
-    Means words Migrating
-migration-means words name one =
-    record { arguments = []; words_are = single words (codes "migrate") one name; are_specs = tt; built = tt }
-
-pub only_migration : (words : List (List ℕ)) (c : Command) → slice_get words 0 ≡ Some (codes "migrate") →
-    Means words c → length words ≡ 1
-only_migration words Migrating e m =
-    let none = as_many m.arguments [] m.are_specs in omega (arith, ap length m.words_are, none)
-only_migration words (Converting tally first between last) e m =
-    (let differ : 109 ≡ 99 = ap (letter_at 0)
-    (first_word words (codes "migrate") (Converting tally first between last) m e) in absurd
-    (omega (arith, differ)))
-only_migration words (Listing true s) e m =
-    (let differ : 109 ≡ 116 = ap (letter_at 0) (first_word words (codes "migrate") (Listing true s) m e) in absurd
-    (omega (arith, differ)))
-only_migration words (Listing false s) e m =
-    (let differ : 109 ≡ 99 = ap (letter_at 0) (first_word words (codes "migrate") (Listing false s) m e) in absurd
-    (omega (arith, differ)))
-only_migration words (Selftesting start count) e m =
-    (let differ : 109 ≡ 115 = ap (letter_at 0)
-    (first_word words (codes "migrate") (Selftesting start count) m e) in absurd
-    (omega (arith, differ)))
+only_conversion words tally c e asked unasked m = by_name c (name-at words ToConvert c e m) m
+  where
+    by_name : (d : Command) → command_name d ≡ ToConvert → Means words d → IsConversion words tally
+    by_name (Converting v first between last) same n = is_conversion words tally v first between last asked unasked n
+    by_name (Listing true s) same n = cc
+    by_name (Listing false s) same n = cc
+    by_name Migrating same n = cc
+    by_name (RecordingTape s) same n = cc
+    by_name PlayingFile same n = cc
+    by_name (GuardingTape s) same n = cc
+    by_name (Selftesting start count) same n = cc
 
 pub none_some : {A : Type 0} (r : Option A) (x : A) → r ≡ None → r ≡ Some x → ⊥
 none_some r x e f = let same = sym e ∙ f in cc

@@ -1,13 +1,16 @@
 -- What the words of a command line mean: the project's own.
 --
 --   Command                 a conversion by two or more specs, the listing of a recording, a tape that is written once
---                           more in the second form, or a self-test
+--                           more in the second form, as a Standard MIDI File or with its notes ended, such a file as a
+--                           tape, or a self-test
+--   CommandName             what it is called; name_word, the word
 --   name_of c               its first word
 --   asks_tally c            whether it is asked how many bytes cross each spec
 --   options_of c            the words between its name and its specs; numbers are in decimal, without leading zeros
 --   specs_of c              its specs
 --   AreWordsOf words specs  each word names the spec at its place
 --   Means words c           these words are that command
+--   IsAlone c               its name is all of its words
 use Rattle.std.specs.Prelude.{◌≡◌, ℕ, ◌<◌, ◌≤◌, ◌^◌, Bool, false, if◌then◌else◌, List, [], ◌∷◌, ◌++◌, length}
 use Rattle.std.specs.Prelude.{codes, decimal}
 use Rattle.mb_carrier.specs.Word.{IsWordOf}
@@ -17,34 +20,72 @@ pub data Command : Type 0 where
   Converting : (tally : Bool) (first : Spec) (between : List Spec) (last : Spec) → Command
   Listing : (traced : Bool) (s : Spec) → Command
   Migrating : Command
+  RecordingTape : (s : Spec) → Command
+  PlayingFile : Command
+  GuardingTape : (s : Spec) → Command
   Selftesting : (start count : ℕ) → Command
 
+pub data CommandName : Type 0 where
+  ToConvert : CommandName
+  ToTrace : CommandName
+  ToCheck : CommandName
+  ToMigrate : CommandName
+  ToRecord : CommandName
+  ToPlay : CommandName
+  ToGuard : CommandName
+  ToSelftest : CommandName
+
+abbrev pub name_word : CommandName → List ℕ
+name_word ToConvert = codes "convert"
+name_word ToTrace = codes "trace"
+name_word ToCheck = codes "check"
+name_word ToMigrate = codes "migrate"
+name_word ToRecord = codes "record"
+name_word ToPlay = codes "play"
+name_word ToGuard = codes "guard"
+name_word ToSelftest = codes "selftest"
+
 -- `trace` prints marks and notes, `check` notes alone
-abbrev pub listing_word : (traced : Bool) → List ℕ
-listing_word traced = if traced then codes "trace" else codes "check"
+abbrev pub listing_name : (traced : Bool) → CommandName
+listing_name traced = if traced then ToTrace else ToCheck
+
+abbrev pub command_name : Command → CommandName
+command_name (Converting tally first between last) = ToConvert
+command_name (Listing traced s) = listing_name traced
+command_name Migrating = ToMigrate
+command_name (RecordingTape s) = ToRecord
+command_name PlayingFile = ToPlay
+command_name (GuardingTape s) = ToGuard
+command_name (Selftesting start count) = ToSelftest
 
 abbrev pub name_of : Command → List ℕ
-name_of (Converting tally first between last) = codes "convert"
-name_of (Listing traced s) = listing_word traced
-name_of Migrating = codes "migrate"
-name_of (Selftesting start count) = codes "selftest"
+name_of c = name_word (command_name c)
 
 abbrev pub asks_tally : Command → Bool
 asks_tally (Converting tally first between last) = tally
 asks_tally (Listing traced s) = false
 asks_tally Migrating = false
+asks_tally (RecordingTape s) = false
+asks_tally PlayingFile = false
+asks_tally (GuardingTape s) = false
 asks_tally (Selftesting start count) = false
 
 abbrev pub options_of : Command → List (List ℕ)
 options_of (Converting tally first between last) = if tally then codes "tally" ∷ [] else []
 options_of (Listing traced s) = []
 options_of Migrating = []
+options_of (RecordingTape s) = []
+options_of PlayingFile = []
+options_of (GuardingTape s) = []
 options_of (Selftesting start count) = decimal start ∷ decimal count ∷ []
 
 abbrev pub specs_of : Command → List Spec
 specs_of (Converting tally first between last) = first ∷ (between ++ last ∷ [])
 specs_of (Listing traced s) = s ∷ []
 specs_of Migrating = []
+specs_of (RecordingTape s) = s ∷ []
+specs_of PlayingFile = []
+specs_of (GuardingTape s) = s ∷ []
 specs_of (Selftesting start count) = []
 
 abbrev pub AreWordsOf : (words : List (List ℕ)) → List Spec → Type 0
@@ -58,7 +99,16 @@ abbrev pub IsBuilt : Command → Type 0
 IsBuilt (Converting tally first between last) = length between ≤ 8
 IsBuilt (Listing traced s) = Unit {0}
 IsBuilt Migrating = Unit {0}
+IsBuilt (RecordingTape s) = Unit {0}
+IsBuilt PlayingFile = Unit {0}
+IsBuilt (GuardingTape s) = Unit {0}
 IsBuilt (Selftesting start count) = (start < 2 ^ 31) × (count ≤ 1000000)
+
+-- a command that is its name alone
+pub record IsAlone (c : Command) : Type 0 where
+  pub no_options : options_of c ≡ []
+  pub no_specs : specs_of c ≡ []
+  pub built : IsBuilt c
 
 pub record Means (words : List (List ℕ)) (c : Command) : Type 0 where
   pub arguments : List (List ℕ)

@@ -10,7 +10,8 @@ use Rattle.mb_carrier.specs.declared.spec.Spec.{Spec}
 use Rattle.mb_carrier.specs.declared.spec.Spec.TheVariants as spec
 use Rattle.mb_words.specs.Command as mean
 use Rattle.mb_words.specs.declared.command.Command.{Command}
-use Rattle.mb_words.specs.declared.command.Command.TheVariants.{Convert, Trace, Check, Migrate, Selftest}
+use Rattle.mb_words.specs.declared.command.Command.TheVariants.{Convert, Trace, Check, Migrate, RecordTape, Play, Guard}
+use Rattle.mb_words.specs.declared.command.Command.TheVariants.{Selftest}
 
 abbrev pub place_of_specs : (tally : Bool) → ℕ
 place_of_specs tally = if tally then 2 else 1
@@ -38,6 +39,9 @@ meaning (Convert tally specs) = converting tally specs.items
 meaning (Trace s) = mean.Listing true s
 meaning (Check s) = mean.Listing false s
 meaning Migrate = mean.Migrating
+meaning (RecordTape s) = mean.RecordingTape s
+meaning Play = mean.PlayingFile
+meaning (Guard s) = mean.GuardingTape s
 meaning (Selftest start count) = mean.Selftesting start count
 
 abbrev pub IsWithin : Command → Type 0
@@ -45,4 +49,7 @@ IsWithin (Convert tally specs) = AreSpecs specs.items × (2 ≤ length specs.ite
 IsWithin (Trace s) = IsSpec s
 IsWithin (Check s) = IsSpec s
 IsWithin Migrate = Unit {0}
+IsWithin (RecordTape s) = IsSpec s
+IsWithin Play = Unit {0}
+IsWithin (Guard s) = IsSpec s
 IsWithin (Selftest start count) = (start < 2 ^ 31) × (count ≤ 1000000)

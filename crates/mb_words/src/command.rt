@@ -18,6 +18,12 @@ pub enum Command {
     Check(Spec),
     /// Write a tape once more, in the second form.
     Migrate,
+    /// Write a tape as a Standard MIDI File.
+    RecordTape(Spec),
+    /// Write a Standard MIDI File as a tape.
+    Play,
+    /// Write a tape once more as a byte line's, and end the notes that it leaves sounding.
+    Guard(Spec),
     /// Check the program on so many units that it makes, the generator's first state given.
     Selftest { start: u32, count: u32 },
 }

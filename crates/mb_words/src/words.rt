@@ -1,10 +1,10 @@
 //! The words of a command line as a command.
 
-ghost use Rattle.std.specs.Prelude.{◌≡◌, ℕ, ◌≤◌, Bool, true, false, List, length, drop, slice_get, codes, Some, IfSome};
-ghost use Rattle.std.specs.Prelude.{IfNone, IfOk, OnErr};
+ghost use Rattle.std.specs.Prelude.{◌≡◌, ℕ, ◌≤◌, Bool, true, false, List, [], ◌∷◌, length, drop, slice_get, codes, Some};
+ghost use Rattle.std.specs.Prelude.{IfSome, IfNone, IfOk, OnErr};
 ghost use Rattle.mb_carrier.specs.declared.spec.Spec.{Spec};
 ghost use Rattle.mb_words.specs.Command as words_mean;
-ghost use Rattle.mb_words.specs.Command.{Means, AreWordsOf, listing_word};
+ghost use Rattle.mb_words.specs.Command.{Means, AreWordsOf, IsAlone, listing_name, name_of, name_word};
 ghost use Rattle.mb_carrier.specs.Word.{IsSpec};
 ghost use Rattle.mb_words.specs.Meaning.{meaning, IsWithin, place_of_specs};
 
@@ -57,7 +57,13 @@ fn read_command(words: &Args) -> Option<Command>
     } else if name == "check" {
         read_listing(words, false)
     } else if name == "migrate" {
-        read_migration(words)
+        read_alone(words, Command::Migrate)
+    } else if name == "record" {
+        read_recording(words)
+    } else if name == "play" {
+        read_alone(words, Command::Play)
+    } else if name == "guard" {
+        read_guarding(words)
     } else if name == "selftest" {
         read_selftest(words)
     } else {
@@ -67,15 +73,12 @@ fn read_command(words: &Args) -> Option<Command>
 
 /// `check SPEC` or `trace SPEC`.
 fn read_listing(words: &Args, traced: bool) -> Option<Command>
-    requires { slice_get words.now 0 ≡ Some (listing_word traced) }
+    requires { slice_get words.now 0 ≡ Some (name_word (listing_name traced)) }
     ensures found { IfSome result (λ c. Means words.now (meaning c)) }
     ensures within { IfSome result IsWithin }
     ensures only { IfNone result ((c : words_mean.Command) → Means words.now c → ⊥) }
 {
-    if words.len() != 2 {
-        return None;
-    }
-    let spec = Spec::read(words.word(1))?;
+    let spec = read_lone_spec(words)?;
     Some(listing_of(traced, spec))
 }
 
@@ -90,15 +93,52 @@ fn listing_of(traced: bool, spec: Spec) -> Command
     }
 }
 
-/// `migrate`, alone.
-fn read_migration(words: &Args) -> Option<Command>
-    requires { slice_get words.now 0 ≡ Some (codes "migrate") }
+/// `record SPEC`.
+fn read_recording(words: &Args) -> Option<Command>
+    requires { slice_get words.now 0 ≡ Some (codes "record") }
+    ensures found { IfSome result (λ c. Means words.now (meaning c)) }
+    ensures within { IfSome result IsWithin }
+    ensures only { IfNone result ((c : words_mean.Command) → Means words.now c → ⊥) }
+{
+    let spec = read_lone_spec(words)?;
+    Some(Command::RecordTape(spec))
+}
+
+/// `guard SPEC`.
+fn read_guarding(words: &Args) -> Option<Command>
+    requires { slice_get words.now 0 ≡ Some (codes "guard") }
+    ensures found { IfSome result (λ c. Means words.now (meaning c)) }
+    ensures within { IfSome result IsWithin }
+    ensures only { IfNone result ((c : words_mean.Command) → Means words.now c → ⊥) }
+{
+    let spec = read_lone_spec(words)?;
+    Some(Command::Guard(spec))
+}
+
+/// The one spec behind a name.
+fn read_lone_spec(words: &Args) -> Option<Spec>
+    ensures found { IfSome result (λ s. AreWordsOf (drop 1 words.now) (s ∷ [])) }
+    ensures within { IfSome result IsSpec }
+    ensures only { IfNone result ((s : Spec) → AreWordsOf (drop 1 words.now) (s ∷ []) → ⊥) }
+{
+    if words.len() != 2 {
+        return None;
+    }
+    let spec = Spec::read(words.word(1))?;
+    Some(spec)
+}
+
+/// A command that is its name alone.
+fn read_alone(words: &Args, command: Command) -> Option<Command>
+    requires name { slice_get words.now 0 ≡ Some (name_of (meaning command)) }
+    requires alone { IsAlone (meaning command) }
+    requires within { IsWithin command }
     ensures found { IfSome result (λ c. Means words.now (meaning c)) }
     ensures within { IfSome result IsWithin }
     ensures only { IfNone result ((c : words_mean.Command) → Means words.now c → ⊥) }
 {
     if words.len() == 1 {
-        Some(Command::Migrate)
+        Some(command)
     } else {
         None
     }

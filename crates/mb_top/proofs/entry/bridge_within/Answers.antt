@@ -1,7 +1,7 @@
 use Rattle.std.proofs.Common.{◌∙◌, ◌++◌, refl, sym, ap, subst, arith}
 use Rattle.mb_carrier.specs.Carrier.{den, notes_of, whole}
 use Rattle.mb_carrier.proofs.ConversionLemmas.{through-means, through-clean, through-whole}
-use Rattle.mb_words.specs.Command.{Converting, Listing, Migrating, Selftesting}
+use Rattle.mb_words.specs.Command.{Converting, Listing, Migrating, PlayingFile, GuardingTape, Selftesting}
 use Rattle.mb_words.proofs.CommandLemmas.{written_specs}
 use Rattle.mb_top.specs.Output.{HasNotes, HasNoNotes}
 use Rattle.mb_top.specs.Answer.{Says, code_of, read_all}
@@ -10,7 +10,11 @@ use Rattle.mb_top.specs.declared.status.Stop.TheVariants.{Refused}
 use Rattle.mb_top.proofs.AnswerLemmas.{answered, went_through, ends-at_status, cut-at_end, reads_all, completes}
 use Rattle.mb_top.proofs.AnswerLemmas.{is_canonical, usage_only, is_meant, read_faults, write_fault, no_write_fault}
 use Rattle.mb_top.proofs.DistanceLemmas.{keeps_distances}
-use Rattle.mb_top.proofs.AnswerLemmas.{wants_memory, noted_alone, no_fault, tape_alone, one-reads, selftest-ends}
+use Rattle.mb_top.proofs.AnswerLemmas.{wants_memory, noted_alone, no_fault, tape_alone, file_alone, one-reads}
+use Rattle.mb_top.proofs.AnswerLemmas.{selftest-ends}
+use Rattle.mb_top.proofs.CarriedLemmas.{carried, carried-completes, carried-part, file-told, tape_fault-told, whole-tape}
+use Rattle.mb_top.proofs.CarriedLemmas.{writes-all}
+use Rattle.mb_top.proofs.PlayLemmas.{whole-sound_file}
 use Rattle.mb_top.proofs.MigrationLemmas as tape
 use Rattle.mb_top.proofs.SoFarLemmas.{live_written, so_far-lacks, so_far-held, so_far-stays, so_far-ends, so_far-front}
 use Rattle.mb_top.proofs.entry.bridge_within.Goals as goal
@@ -19,7 +23,7 @@ pub returns-clause-contents : goal.returns-clause-contents
 returns-clause-contents g c = λ tells.
     let words = c.say.ensures.said tells in
     let text = c.as_slice.ensures.value ∙ c.text.ensures in
-    answered _ _ _ _ _ _ _ _ _ _ c.run-status.result _ words.0 (omega (arith, c.code.ensures))
+    answered _ _ _ _ _ _ _ _ _ _ _ c.run-status.result _ words.0 (omega (arith, c.code.ensures))
     (c.run-status.ensures.ran tells) c.run-status.ensures.faults words.1
     (subst (Says _ words.0) text words.2) (λ all_said. words.3 (all_said ∙ sym text))
 
@@ -127,9 +131,9 @@ pub returns-clause-reads_all : goal.returns-clause-reads_all
 returns-clause-reads_all g c = λ command s tells m reads unhindered short unwanted.
     ap read_all c.code.ensures
     ∙ reads_all _ _ _ _ _ _ c.run-status.result command m c.run-status.ensures.may unwanted
-    (λ e. (read_faults _ _ _ _ _ c.run-status.result _ c.code.ensures c.say.ensures.reads c.run-status.ensures.faults).0
+    (λ e. (read_faults _ _ _ _ _ _ c.run-status.result _ c.code.ensures c.say.ensures.reads c.run-status.ensures.faults).0
     (c.code.ensures ∙ ap code_of e))
-    (λ e. write_fault _ _ _ _ _ c.run-status.result _ c.code.ensures c.say.ensures.writes c.run-status.ensures.faults
+    (λ e. write_fault _ _ _ _ _ _ c.run-status.result _ c.code.ensures c.say.ensures.writes c.run-status.ensures.faults
     (c.code.ensures ∙ ap code_of e))
     unhindered.reading unhindered.writing short (λ input f front. no_fault command s input f reads)
     (c.run-status.ensures.ran tells)
@@ -143,19 +147,19 @@ returns-clause-complete g c = λ tally first between last tells m unhindered sho
 
 pub returns-clause-read_fault : goal.returns-clause-read_fault
 returns-clause-read_fault g c =
-    (read_faults _ _ _ _ _ c.run-status.result _ c.code.ensures c.say.ensures.reads c.run-status.ensures.faults).0
+    (read_faults _ _ _ _ _ _ c.run-status.result _ c.code.ensures c.say.ensures.reads c.run-status.ensures.faults).0
 
 pub returns-clause-read_fault_told : goal.returns-clause-read_fault_told
 returns-clause-read_fault_told g c =
-    (read_faults _ _ _ _ _ c.run-status.result _ c.code.ensures c.say.ensures.reads c.run-status.ensures.faults).1
+    (read_faults _ _ _ _ _ _ c.run-status.result _ c.code.ensures c.say.ensures.reads c.run-status.ensures.faults).1
 
 pub returns-clause-write_fault : goal.returns-clause-write_fault
-returns-clause-write_fault g c = write_fault _ _ _ _ _ c.run-status.result _ c.code.ensures c.say.ensures.writes
+returns-clause-write_fault g c = write_fault _ _ _ _ _ _ c.run-status.result _ c.code.ensures c.say.ensures.writes
     c.run-status.ensures.faults
 
 pub returns-clause-write_fault_told : goal.returns-clause-write_fault_told
 returns-clause-write_fault_told g c =
-    no_write_fault _ _ _ _ _ c.run-status.result _ c.code.ensures
+    no_write_fault _ _ _ _ _ _ c.run-status.result _ c.code.ensures
     (λ none. c.say.ensures.quiet (c.as_slice.ensures.value ∙ (c.text.ensures ∙ none))) c.run-status.ensures.faults
 
 pub returns-clause-memory : goal.returns-clause-memory
@@ -172,34 +176,79 @@ returns-clause-given g c = λ tells. (returns-clause-contents g c tells).given
 
 pub returns-clause-migrated : goal.returns-clause-migrated
 returns-clause-migrated g c = λ tells m other.
-    (tape.migrated _ _ _ _ _ _ _ m other (returns-clause-contents g c tells)).written_is
+    (carried _ _ _ _ _ _ _ Migrating (writes-all Migrating refl) m other (returns-clause-contents g c tells)).written_is
 
 pub returns-clause-same_records : goal.returns-clause-same_records
 returns-clause-same_records g c = λ tells m other bytes.
     tape.same-records _ _ (returns-clause-migrated g c tells m other) bytes
 
-pub returns-clause-migrated_part : goal.returns-clause-migrated_part
-returns-clause-migrated_part g c = λ tells m four.
-    tape.migrated-part _ _ _ _ _ _ _ m four (returns-clause-contents g c tells)
+pub returns-clause-played : goal.returns-clause-played
+returns-clause-played g c = λ tells m other.
+    (carried _ _ _ _ _ _ _ PlayingFile (writes-all PlayingFile refl) m other
+    (returns-clause-contents g c tells)).written_is
+
+pub returns-clause-guarded : goal.returns-clause-guarded
+returns-clause-guarded g c = λ s tells m other.
+    (carried _ _ _ _ _ _ _ (GuardingTape s) (writes-all (GuardingTape s) refl) m other
+    (returns-clause-contents g c tells)).written_is
+
+pub returns-clause-rewritten_part : goal.returns-clause-rewritten_part
+returns-clause-rewritten_part g c = λ command tells m all four.
+    carried-part _ _ _ _ _ _ _ command m four (returns-clause-contents g c tells)
 
 pub returns-clause-bad_tape : goal.returns-clause-bad_tape
-returns-clause-bad_tape g c = λ tells m other.
-    (tape.migrated _ _ _ _ _ _ _ m other (returns-clause-contents g c tells)).fault
+returns-clause-bad_tape g c = λ command all reads tells m other.
+    tape_fault-told command _ _ all reads
+    (carried _ _ _ _ _ _ _ command (writes-all command all) m other (returns-clause-contents g c tells)).told
 
-pub returns-clause-cut_tape : goal.returns-clause-cut_tape
-returns-clause-cut_tape g c = λ tells m other.
-    (tape.migrated _ _ _ _ _ _ _ m other (returns-clause-contents g c tells)).end
+pub returns-clause-bad_file : goal.returns-clause-bad_file
+returns-clause-bad_file g c = λ tells m other.
+    file-told _ _ (carried _ _ _ _ _ _ _ PlayingFile (writes-all PlayingFile refl) m other
+    (returns-clause-contents g c tells)).told
+
+pub returns-clause-cut_rewriting : goal.returns-clause-cut_rewriting
+returns-clause-cut_rewriting g c = λ command all tells m other.
+    (carried _ _ _ _ _ _ _ command (writes-all command all) m other (returns-clause-contents g c tells)).end
+
+pub returns-clause-bad_file_alone : goal.returns-clause-bad_file_alone
+returns-clause-bad_file_alone g c = file_alone _ c.run-status.result _ c.code.ensures c.run-status.ensures.may
 
 pub returns-clause-migrates : goal.returns-clause-migrates
 returns-clause-migrates g c = λ tells m unhindered short is_whole.
-    tape.completes _ _ _ _ _ _ _ m
+    carried-completes _ _ _ _ _ _ _ Migrating (writes-all Migrating refl) m
     (ap read_all c.code.ensures
     ∙ reads_all _ _ _ _ _ _ c.run-status.result Migrating m c.run-status.ensures.may refl
-    (λ e. (read_faults _ _ _ _ _ c.run-status.result _ c.code.ensures c.say.ensures.reads c.run-status.ensures.faults).0
+    (λ e. (read_faults _ _ _ _ _ _ c.run-status.result _ c.code.ensures c.say.ensures.reads c.run-status.ensures.faults).0
     (c.code.ensures ∙ ap code_of e))
-    (λ e. write_fault _ _ _ _ _ c.run-status.result _ c.code.ensures c.say.ensures.writes c.run-status.ensures.faults
+    (λ e. write_fault _ _ _ _ _ _ c.run-status.result _ c.code.ensures c.say.ensures.writes c.run-status.ensures.faults
     (c.code.ensures ∙ ap code_of e))
-    unhindered.reading unhindered.writing short (λ input f front. tape.whole-no_fault _ input f is_whole front)
+    unhindered.reading unhindered.writing short (λ input f front. tape.whole-sound_tape _ input f is_whole front)
+    (c.run-status.ensures.ran tells))
+    is_whole (returns-clause-contents g c tells)
+
+pub returns-clause-plays : goal.returns-clause-plays
+returns-clause-plays g c = λ tells m unhindered short ended sound.
+    carried-completes _ _ _ _ _ _ _ PlayingFile (writes-all PlayingFile refl) m
+    (ap read_all c.code.ensures
+    ∙ reads_all _ _ _ _ _ _ c.run-status.result PlayingFile m c.run-status.ensures.may refl
+    (λ e. (read_faults _ _ _ _ _ _ c.run-status.result _ c.code.ensures c.say.ensures.reads c.run-status.ensures.faults).0
+    (c.code.ensures ∙ ap code_of e))
+    (λ e. write_fault _ _ _ _ _ _ c.run-status.result _ c.code.ensures c.say.ensures.writes c.run-status.ensures.faults
+    (c.code.ensures ∙ ap code_of e))
+    unhindered.reading unhindered.writing short (λ input f front. whole-sound_file _ input f sound front)
+    (c.run-status.ensures.ran tells))
+    ended (returns-clause-contents g c tells)
+
+pub returns-clause-guards : goal.returns-clause-guards
+returns-clause-guards g c = λ s tells m unhindered short is_whole.
+    carried-completes _ _ _ _ _ _ _ (GuardingTape s) (writes-all (GuardingTape s) refl) m
+    (ap read_all c.code.ensures
+    ∙ reads_all _ _ _ _ _ _ c.run-status.result (GuardingTape s) m c.run-status.ensures.may refl
+    (λ e. (read_faults _ _ _ _ _ _ c.run-status.result _ c.code.ensures c.say.ensures.reads c.run-status.ensures.faults).0
+    (c.code.ensures ∙ ap code_of e))
+    (λ e. write_fault _ _ _ _ _ _ c.run-status.result _ c.code.ensures c.say.ensures.writes c.run-status.ensures.faults
+    (c.code.ensures ∙ ap code_of e))
+    unhindered.reading unhindered.writing short (λ input f front. tape.whole-sound_tape _ input f (whole-tape s _ is_whole) front)
     (c.run-status.ensures.ran tells))
     is_whole (returns-clause-contents g c tells)
 

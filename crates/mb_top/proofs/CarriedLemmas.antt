@@ -1,0 +1,180 @@
+-- What each answer says of a command that writes, also where it is stopped, all that the input so far gives.
+use Rattle.std.proofs.Common.{◌≡◌, ℕ, ◌<◌, ◌↔◌, ◌&&◌, Bool, true, false, List, refl, sym, ◌∙◌, ap, subst, arith}
+use Rattle.std.specs.Prelude.{Option, Some, None, IsSome}
+use Rattle.mb_message.specs.Front.{IsFront}
+use Rattle.mb_outside.specs.Contents.{Contents}
+use Rattle.mb_frames.specs.Tapes.{tape_fault, tape_whole}
+use Rattle.mb_track.specs.Track.{recording, track_records, track_whole}
+use Rattle.mb_carrier.specs.Carrier.{whole}
+use Rattle.mb_carrier.specs.declared.spec.Spec.{Spec}
+use Rattle.mb_frames.specs.declared.tape.TapeFault.{TapeFault}
+use Rattle.mb_smf.specs.declared.fault.SmfFault.{SmfFault}
+use Rattle.mb_words.specs.Command.{Command, Converting, Listing, Migrating, PlayingFile, GuardingTape, Selftesting, Means}
+use Rattle.mb_top.specs.Output.{fault_of, in_file, in_tape, is_whole, may_want_memory, output_of, stopped_output_of}
+use Rattle.mb_top.specs.Output.{reads_from, reads_tape, rewrites}
+use Rattle.mb_top.specs.Answer.{Answered, EndsAs, taken_off, added_to, code_of, read_all}
+use Rattle.mb_top.specs.declared.fault.Fault.{Fault}
+use Rattle.mb_top.specs.declared.fault.Fault.TheVariants as fault
+use Rattle.mb_top.specs.declared.status.Status.{Status}
+use Rattle.mb_top.specs.declared.status.Status.TheVariants.{Done, Noted, Usage, Cut, NoMemory, Stopped}
+use Rattle.mb_top.specs.declared.status.Stop.TheVariants.{ReadFault, Refused, TooLong, Faulty}
+use Rattle.mb_top.proofs.AnswerLemmas.{ends-at_status}
+
+wrong : true ≡ false → ⊥
+wrong e = cc
+
+-- such a command
+pub record WritesAll (c : Command) : Type 0 where
+  pub stopped : (input : List ℕ) → stopped_output_of c input ≡ output_of c input
+  pub no_memory : may_want_memory c ≡ false
+  pub no_notes : (left input output tally : List ℕ) (limit : ℕ) → EndsAs c limit left input output tally Noted → ⊥
+  pub reads : reads_from c 0 ≡ true
+
+pub writes-all : (c : Command) → rewrites c ≡ true → WritesAll c
+writes-all (Converting tally first between last) e = absurd (wrong (sym e))
+writes-all (Listing traced s) e = absurd (wrong (sym e))
+writes-all Migrating e = record {
+  stopped = λ input. refl;
+  no_memory = refl;
+  no_notes = λ left input output tally limit ends. ends.2;
+  reads = refl;
+}
+writes-all PlayingFile e = record {
+  stopped = λ input. refl;
+  no_memory = refl;
+  no_notes = λ left input output tally limit ends. ends.2;
+  reads = refl;
+}
+writes-all (GuardingTape s) e = record {
+  stopped = λ input. refl;
+  no_memory = refl;
+  no_notes = λ left input output tally limit ends. ends.2;
+  reads = refl;
+}
+writes-all (Selftesting start count) e = absurd (wrong (sym e))
+
+-- the answer tells which fault there is, if there is one
+abbrev pub Tells : Option Fault → (answer : ℕ) → Type 0
+Tells None n = (n ≡ 7 → ⊥) × (n ≡ 13 → ⊥)
+Tells (Some (fault.Tape f)) n = n ≡ 7
+Tells (Some (fault.File f)) n = n ≡ 13
+
+-- no write failed
+pub record Carried (c : Command) (left read written : List ℕ) (answer : ℕ) : Type 0 where
+  pub written_is : written ≡ output_of c read
+  pub told : Tells (fault_of c read) answer
+  pub end : read_all answer ≡ true → (read ≡ left) × ((answer ≡ 5) ↔ (is_whole c read ≡ false))
+
+sound-at : (c : Command) (read : List ℕ) (n : ℕ) → (n ≡ 7 → ⊥) → (n ≡ 13 → ⊥) → fault_of c read ≡ None →
+    Tells (fault_of c read) n
+sound-at c read n tape file sound = subst (λ (f : Option Fault). Tells f n) (sym sound) (tape, file)
+
+by_status : (c : Command) (limit : ℕ) (left read written tally : List ℕ) (s : Status) → WritesAll c →
+    (code_of s ≡ 4 → ⊥) → EndsAs c limit left read written tally s → Carried c left read written (code_of s)
+by_status c limit left read written tally Done w other ends =
+    record {
+      written_is = (ends.0).output_is;
+      told = sound-at c read 0 (λ e. omega (arith, e)) (λ e. omega (arith, e)) (ends.0).sound;
+      end = λ all. (
+        sym ((ends.0).all w.reads),
+        (λ e. absurd (omega (arith, e)), λ h. absurd (wrong (sym (ends.1) ∙ h))),
+      );
+    }
+by_status c limit left read written tally Noted w other ends = absurd (w.no_notes left read written tally limit ends)
+by_status c limit left read written tally Usage w other ends = absurd ends
+by_status c limit left read written tally Cut w other ends =
+    record {
+      written_is = (ends.0).output_is;
+      told = sound-at c read 5 (λ e. omega (arith, e)) (λ e. omega (arith, e)) (ends.0).sound;
+      end = λ all. (sym ((ends.0).all w.reads), (λ e. ends.1, λ h. refl));
+    }
+by_status c limit left read written tally NoMemory w other ends = absurd (wrong (sym (ends.3) ∙ w.no_memory))
+by_status c limit left read written tally (Stopped ReadFault) w other ends =
+    record {
+      written_is = ends.0 ∙ w.stopped read;
+      told = sound-at c read 3 (λ e. omega (arith, e)) (λ e. omega (arith, e)) (ends.2);
+      end = λ all. absurd (wrong (sym all));
+    }
+by_status c limit left read written tally (Stopped Refused) w other ends = absurd (other refl)
+by_status c limit left read written tally (Stopped TooLong) w other ends =
+    record {
+      written_is = ends.1 ∙ w.stopped read;
+      told = sound-at c read 8 (λ e. omega (arith, e)) (λ e. omega (arith, e)) (ends.3);
+      end = λ all. absurd (wrong (sym all));
+    }
+by_status c limit left read written tally (Stopped (Faulty (fault.Tape f))) w other ends =
+    record {
+      written_is = ends.0 ∙ w.stopped read;
+      told = subst (λ (x : Option Fault). Tells x 7) (sym (ends.2)) refl;
+      end = λ all. absurd (wrong (sym all));
+    }
+by_status c limit left read written tally (Stopped (Faulty (fault.File f))) w other ends =
+    record {
+      written_is = ends.0 ∙ w.stopped read;
+      told = subst (λ (x : Option Fault). Tells x 13) (sym (ends.2)) refl;
+      end = λ all. absurd (wrong (sym all));
+    }
+
+pub carried : (words : List (List ℕ)) (limit : ℕ) (before after : Contents) (faults faults_now answer : ℕ)
+    (c : Command) → WritesAll c →
+    Means words c → (answer ≡ 4 → ⊥) → Answered words limit before after faults faults_now answer →
+    Carried c (before.left 0) (taken_off 0 before after) (added_to 1 before after) answer
+carried words limit before after faults faults_now answer c w m other a =
+    subst (Carried c (before.left 0) (taken_off 0 before after) (added_to 1 before after)) (sym a.number)
+    (by_status c limit (before.left 0) (taken_off 0 before after) (added_to 1 before after) a.tally a.status w
+    (λ e. other (a.number ∙ e)) (a.did c m).ends)
+
+-- where a write failed, a front of it was written
+pub carried-part : (words : List (List ℕ)) (limit : ℕ) (before after : Contents) (faults faults_now answer : ℕ)
+    (c : Command) → Means words c → answer ≡ 4 → Answered words limit before after faults faults_now answer →
+    IsFront (added_to 1 before after) (output_of c (taken_off 0 before after))
+carried-part words limit before after faults faults_now answer c m four a =
+    (ends-at_status words limit before after faults faults_now answer c (Stopped Refused) refl four m a).front
+
+-- of what was read to its end and is whole, it is 0
+pub carried-completes : (words : List (List ℕ)) (limit : ℕ) (before after : Contents) (faults faults_now answer : ℕ)
+    (c : Command) → WritesAll c → Means words c → read_all answer ≡ true → is_whole c (before.left 0) ≡ true →
+    Answered words limit before after faults faults_now answer → answer ≡ 0
+carried-completes words limit before after faults faults_now answer c w m all is a =
+    a.number ∙ by_end a.status (sym (ap read_all a.number) ∙ all) (a.did c m).ends
+  where
+    by_end : (s : Status) → read_all (code_of s) ≡ true →
+        EndsAs c limit (before.left 0) (taken_off 0 before after) (added_to 1 before after) a.tally s →
+        code_of s ≡ 0
+    by_end Done e ends = refl
+    by_end Noted e ends = absurd (w.no_notes _ _ _ _ limit ends)
+    by_end Cut e ends = absurd (wrong (sym is ∙ (ap (is_whole c) ((ends.0).all w.reads) ∙ ends.1)))
+    by_end Usage e ends = absurd ends
+    by_end NoMemory e ends = absurd (wrong (sym e))
+    by_end (Stopped ReadFault) e ends = absurd (wrong (sym e))
+    by_end (Stopped Refused) e ends = absurd (wrong (sym e))
+    by_end (Stopped TooLong) e ends = absurd (wrong (sym e))
+    by_end (Stopped (Faulty (fault.Tape f))) e ends = absurd (wrong (sym e))
+    by_end (Stopped (Faulty (fault.File f))) e ends = absurd (wrong (sym e))
+
+-- of a tape, and of a file
+
+-- the fault of a tape, by the command that reads it
+pub tape_fault-told : (c : Command) (read : List ℕ) (answer : ℕ) → rewrites c ≡ true → reads_tape c ≡ true →
+    Tells (fault_of c read) answer → (answer ≡ 7) ↔ IsSome (tape_fault read)
+tape_fault-told (Converting tally first between last) read answer r e t = absurd (wrong (sym r))
+tape_fault-told (Listing traced s) read answer r e t = absurd (wrong (sym r))
+tape_fault-told Migrating read answer r e t = tape-told (tape_fault read) answer t
+tape_fault-told PlayingFile read answer r e t = absurd (wrong (sym e))
+tape_fault-told (GuardingTape s) read answer r e t = tape-told (tape_fault read) answer t
+tape_fault-told (Selftesting start count) read answer r e t = absurd (wrong (sym r))
+
+pub tape-told : (told : Option TapeFault) (answer : ℕ) → Tells (in_tape told) answer → (answer ≡ 7) ↔ IsSome told
+tape-told None answer t = (λ e. absurd (t.0 e), λ some. absurd (wrong (sym some)))
+tape-told (Some f) answer t = (λ e. refl, λ some. t)
+
+pub file-told : (told : Option SmfFault) (answer : ℕ) → Tells (in_file told) answer → (answer ≡ 13) ↔ IsSome told
+file-told None answer t = (λ e. absurd (t.1 e), λ some. absurd (wrong (sym some)))
+file-told (Some f) answer t = (λ e. refl, λ some. t)
+
+pub whole-tape : (s : Spec) (tape : List ℕ) → track_whole s 0 tape ≡ true → tape_whole tape ≡ true
+whole-tape s tape e = first (tape_whole tape) (whole s (recording 0 (track_records tape))) e
+  where
+    first : (a b : Bool) → (a && b) ≡ true → a ≡ true
+    first true b e = refl
+    first false b e = absurd (wrong (sym e))
