@@ -1,5 +1,5 @@
 -- From what a command did to what the caller sees.
-use Rattle.std.proofs.Common.{◌≡◌, Bool, ℕ, ◌+◌, ◌<◌, ◌≤◌, ◌↔◌, ◌==◌, ◌||◌, if◌then◌else◌, true, false, List}
+use Rattle.std.proofs.Common.{◌≡◌, Bool, ℕ, ◌+◌, ◌<◌, ◌≤◌, ◌↔◌, ◌==◌, ◌||◌, ◌&&◌, not, if◌then◌else◌, true, false, List}
 use Rattle.std.proofs.Common.{[], ◌++◌, length, take, drop, refl, sym, ◌∙◌, ap, subst, inl, inr, ◌⊎◌, arith}
 use Rattle.std.proofs.Common.{length-append}
 use Rattle.std.proofs.lemmas.Bool.Decides.{nat_tests}
@@ -10,11 +10,14 @@ use Rattle.mb_outside.specs.ContentsLaws.{after_write-none, after_write-twice, a
 use Rattle.mb_message.specs.Front.{IsFront}
 use Rattle.mb_carrier.specs.Carrier.{whole}
 use Rattle.mb_carrier.specs.declared.spec.Spec.{Spec}
-use Rattle.mb_words.specs.Command.{Command, Converting, Listing, Migrating, PlayingFile, GuardingTape, Selftesting, Means}
+use Rattle.mb_words.specs.Command.{Command, Converting, Listing, Migrating, RecordingTape, PlayingFile, GuardingTape}
+use Rattle.mb_words.specs.Command.{Selftesting, Means}
 use Rattle.mb_words.proofs.CommandLemmas.{one_command}
 use Rattle.mb_top.specs.Output.{ReadsOne, reads_from, writes_to, may_want_memory, answers_notes, is_whole}
-use Rattle.mb_top.specs.Output.{fault_of, in_file, in_tape, reads_file, reads_tape, writes_at_stop}
-use Rattle.std.specs.Prelude.{Some}
+use Rattle.mb_top.specs.Output.{fault_of, reads_file, reads_tape, records, writes_at_stop, LeavesOut, Shows, WantsMemory}
+use Rattle.mb_smf.specs.declared.writer.SmfFull.{SmfFull}
+use Rattle.mb_smf.specs.declared.writer.SmfFull.TheVariants as full
+use Rattle.std.specs.Prelude.{Some, nat_le}
 use Rattle.mb_frames.specs.declared.tape.TapeFault.{TapeFault}
 use Rattle.mb_smf.specs.declared.fault.SmfFault.{SmfFault}
 use Rattle.mb_top.specs.declared.fault.Fault.{Fault}
@@ -23,7 +26,7 @@ use Rattle.mb_top.specs.Answer.{Answered, DidAll, Moved, EndsAs, Says, faults_to
 use Rattle.mb_top.specs.Answer.{text_of, read_all}
 use Rattle.mb_top.specs.Ran.{CommandRan, RanWords, MayAnswer, MayAnswerWords, Faulted, written_of}
 use Rattle.mb_top.specs.declared.status.Status.{Status}
-use Rattle.mb_top.specs.declared.status.Status.TheVariants.{Done, Noted, Usage, Cut, NoMemory, Stopped}
+use Rattle.mb_top.specs.declared.status.Status.TheVariants.{Done, Noted, Usage, Cut, Stopped}
 use Rattle.mb_top.specs.declared.status.Stop.TheVariants.{ReadFault, Refused, TooLong, Faulty}
 use Rattle.mb_top.specs.declared.status.Stop.{Stop}
 use Rattle.mb_carrier.specs.Conversion.{through}
@@ -39,23 +42,25 @@ abbrev status_at : ℕ → Status
 status_at n =
     if n == 0 then Done else (if n == 1 then Noted else (if n == 2 then Usage else
     (if n == 3 then Stopped ReadFault else (if n == 4 then Stopped Refused else
-    (if n == 5 then Cut else (if n == 8 then Stopped TooLong else NoMemory))))))
+    (if n == 5 then Cut else Stopped TooLong)))))
 
 -- the numbers that tell of a fault, and not of which
 abbrev pub tells_fault : ℕ → Bool
-tells_fault n = (n == 7) || (n == 13)
+tells_fault n = nat_le 7 n && not (n == 8)
 
 again : (s : Status) → tells_fault (code_of s) ≡ false → status_at (code_of s) ≡ s
 again Done other = refl
 again Noted other = refl
 again Usage other = refl
 again Cut other = refl
-again NoMemory other = refl
 again (Stopped ReadFault) other = refl
 again (Stopped Refused) other = refl
 again (Stopped TooLong) other = refl
 again (Stopped (Faulty (fault.Tape f))) other = absurd (wrong other)
 again (Stopped (Faulty (fault.File f))) other = absurd (wrong other)
+again (Stopped (Faulty fault.LongTrack)) other = absurd (wrong other)
+again (Stopped (Faulty (fault.LongGap was now))) other = absurd (wrong other)
+again (Stopped (Faulty fault.Memory)) other = absurd (wrong other)
 
 -- but for those of a fault, which are known too
 pub same_status : (s t : Status) → tells_fault (code_of t) ≡ false → code_of s ≡ code_of t → s ≡ t
@@ -72,7 +77,9 @@ bad_tape Done e = absurd (omega (arith, e))
 bad_tape Noted e = absurd (omega (arith, e))
 bad_tape Usage e = absurd (omega (arith, e))
 bad_tape Cut e = absurd (omega (arith, e))
-bad_tape NoMemory e = absurd (omega (arith, e))
+bad_tape (Stopped (Faulty fault.LongTrack)) e = absurd (omega (arith, e))
+bad_tape (Stopped (Faulty (fault.LongGap was now))) e = absurd (omega (arith, e))
+bad_tape (Stopped (Faulty fault.Memory)) e = absurd (omega (arith, e))
 
 pub bad_file : (s : Status) → code_of s ≡ 13 → (f : SmfFault) × (s ≡ Stopped (Faulty (fault.File f)))
 bad_file (Stopped (Faulty (fault.File f))) e = (f, refl)
@@ -84,7 +91,52 @@ bad_file Done e = absurd (omega (arith, e))
 bad_file Noted e = absurd (omega (arith, e))
 bad_file Usage e = absurd (omega (arith, e))
 bad_file Cut e = absurd (omega (arith, e))
-bad_file NoMemory e = absurd (omega (arith, e))
+bad_file (Stopped (Faulty fault.LongTrack)) e = absurd (omega (arith, e))
+bad_file (Stopped (Faulty (fault.LongGap was now))) e = absurd (omega (arith, e))
+bad_file (Stopped (Faulty fault.Memory)) e = absurd (omega (arith, e))
+
+pub no_memory : (s : Status) → code_of s ≡ 9 → s ≡ Stopped (Faulty fault.Memory)
+no_memory (Stopped (Faulty fault.Memory)) e = refl
+no_memory (Stopped (Faulty (fault.Tape f))) e = absurd (omega (arith, e))
+no_memory (Stopped (Faulty (fault.File f))) e = absurd (omega (arith, e))
+no_memory (Stopped (Faulty fault.LongTrack)) e = absurd (omega (arith, e))
+no_memory (Stopped (Faulty (fault.LongGap was now))) e = absurd (omega (arith, e))
+no_memory (Stopped ReadFault) e = absurd (omega (arith, e))
+no_memory (Stopped Refused) e = absurd (omega (arith, e))
+no_memory (Stopped TooLong) e = absurd (omega (arith, e))
+no_memory Done e = absurd (omega (arith, e))
+no_memory Noted e = absurd (omega (arith, e))
+no_memory Usage e = absurd (omega (arith, e))
+no_memory Cut e = absurd (omega (arith, e))
+
+pub long_track : (s : Status) → code_of s ≡ 11 → s ≡ Stopped (Faulty fault.LongTrack)
+long_track (Stopped (Faulty fault.LongTrack)) e = refl
+long_track (Stopped (Faulty (fault.Tape f))) e = absurd (omega (arith, e))
+long_track (Stopped (Faulty (fault.File f))) e = absurd (omega (arith, e))
+long_track (Stopped (Faulty fault.Memory)) e = absurd (omega (arith, e))
+long_track (Stopped (Faulty (fault.LongGap was now))) e = absurd (omega (arith, e))
+long_track (Stopped ReadFault) e = absurd (omega (arith, e))
+long_track (Stopped Refused) e = absurd (omega (arith, e))
+long_track (Stopped TooLong) e = absurd (omega (arith, e))
+long_track Done e = absurd (omega (arith, e))
+long_track Noted e = absurd (omega (arith, e))
+long_track Usage e = absurd (omega (arith, e))
+long_track Cut e = absurd (omega (arith, e))
+
+pub long_gap : (s : Status) → code_of s ≡ 12 →
+    (was : ℕ) × (now : ℕ) × (s ≡ Stopped (Faulty (fault.LongGap was now)))
+long_gap (Stopped (Faulty (fault.LongGap was now))) e = (was, now, refl)
+long_gap (Stopped (Faulty (fault.Tape f))) e = absurd (omega (arith, e))
+long_gap (Stopped (Faulty (fault.File f))) e = absurd (omega (arith, e))
+long_gap (Stopped (Faulty fault.Memory)) e = absurd (omega (arith, e))
+long_gap (Stopped (Faulty fault.LongTrack)) e = absurd (omega (arith, e))
+long_gap (Stopped ReadFault) e = absurd (omega (arith, e))
+long_gap (Stopped Refused) e = absurd (omega (arith, e))
+long_gap (Stopped TooLong) e = absurd (omega (arith, e))
+long_gap Done e = absurd (omega (arith, e))
+long_gap Noted e = absurd (omega (arith, e))
+long_gap Usage e = absurd (omega (arith, e))
+long_gap Cut e = absurd (omega (arith, e))
 
 pub other_status : (s t : Status) → (code_of s ≡ code_of t → ⊥) → s ≡ t → ⊥
 other_status s t other e = other (ap code_of e)
@@ -96,7 +148,9 @@ at_the_end claim done noted cut Done e = done
 at_the_end claim done noted cut Noted e = noted
 at_the_end claim done noted cut Cut e = cut
 at_the_end claim done noted cut Usage e = absurd (wrong (sym e))
-at_the_end claim done noted cut NoMemory e = absurd (wrong (sym e))
+at_the_end claim done noted cut (Stopped (Faulty fault.LongTrack)) e = absurd (wrong (sym e))
+at_the_end claim done noted cut (Stopped (Faulty (fault.LongGap was now))) e = absurd (wrong (sym e))
+at_the_end claim done noted cut (Stopped (Faulty fault.Memory)) e = absurd (wrong (sym e))
 at_the_end claim done noted cut (Stopped ReadFault) e = absurd (wrong (sym e))
 at_the_end claim done noted cut (Stopped Refused) e = absurd (wrong (sym e))
 at_the_end claim done noted cut (Stopped TooLong) e = absurd (wrong (sym e))
@@ -243,6 +297,7 @@ only_writes : (c : Command) (handle : ℕ) → writes_to c handle ≡ false → 
 only_writes (Converting tally first between last) handle e = e
 only_writes (Listing traced s) handle e = e
 only_writes Migrating handle e = e
+only_writes (RecordingTape s) handle e = e
 only_writes PlayingFile handle e = e
 only_writes (GuardingTape s) handle e = e
 only_writes (Selftesting start count) handle e = e
@@ -263,6 +318,7 @@ unread-by : (c : Command) (input : List ℕ) (handle : ℕ) → (reads_from c 0 
 unread-by (Converting tally first between last) input handle none e = unread input handle e
 unread-by (Listing traced s) input handle none e = unread input handle e
 unread-by Migrating input handle none e = unread input handle e
+unread-by (RecordingTape s) input handle none e = unread input handle e
 unread-by PlayingFile input handle none e = unread input handle e
 unread-by (GuardingTape s) input handle none e = unread input handle e
 unread-by (Selftesting start count) input handle none e = none-read input handle (none refl)
@@ -358,7 +414,6 @@ answered quiet words limit before mid after reads reads_mid faults faults_mid fa
     by_told Noted = inr refl
     by_told Usage = inr refl
     by_told Cut = inr refl
-    by_told NoMemory = inr refl
     by_told (Stopped ReadFault) = inr refl
     by_told (Stopped Refused) = inl refl
     by_told (Stopped TooLong) = inr refl
@@ -465,23 +520,53 @@ is_whole-of : (c : Command) (s : Spec) (input : List ℕ) → ReadsOne c s → i
 is_whole-of (Converting tally first between last) s input e = ap (λ (t : Spec). whole t input) (sym e)
 is_whole-of (Listing traced t) s input e = ap (λ (u : Spec). whole u input) (sym e)
 is_whole-of Migrating s input e = absurd e
+is_whole-of (RecordingTape t) s input e = absurd e
 is_whole-of PlayingFile s input e = absurd e
 is_whole-of (GuardingTape t) s input e = absurd e
 is_whole-of (Selftesting start count) s input e = absurd e
 
 -- a recording that is no tape has no fault
-pub no_fault : (c : Command) (s : Spec) (input : List ℕ) (f : Fault) → ReadsOne c s → fault_of c input ≡ Some f → ⊥
-no_fault (Converting tally first between last) s input f reads e = cc
-no_fault (Listing traced t) s input f reads e = cc
-no_fault Migrating s input f reads e = reads
-no_fault PlayingFile s input f reads e = reads
-no_fault (GuardingTape t) s input f reads e = reads
-no_fault (Selftesting start count) s input f reads e = reads
+no_fault-of : (c : Command) (s : Spec) (input : List ℕ) (f : Fault) → ReadsOne c s → fault_of c input ≡ Some f → ⊥
+no_fault-of (Converting tally first between last) s input f reads e = cc
+no_fault-of (Listing traced t) s input f reads e = cc
+no_fault-of Migrating s input f reads e = reads
+no_fault-of (RecordingTape t) s input f reads e = reads
+no_fault-of PlayingFile s input f reads e = reads
+no_fault-of (GuardingTape t) s input f reads e = reads
+no_fault-of (Selftesting start count) s input f reads e = reads
+
+leaves_none : (c : Command) (s : Spec) (input : List ℕ) (why : SmfFull) → ReadsOne c s → LeavesOut c input why → ⊥
+leaves_none (Converting tally first between last) s input why reads e = e
+leaves_none (Listing traced t) s input why reads e = e
+leaves_none Migrating s input why reads e = e
+leaves_none (RecordingTape t) s input why reads e = reads
+leaves_none PlayingFile s input why reads e = e
+leaves_none (GuardingTape t) s input why reads e = e
+leaves_none (Selftesting start count) s input why reads e = e
+
+wants_none : (c : Command) (s : Spec) (input : List ℕ) → ReadsOne c s → may_want_memory c ≡ false →
+    WantsMemory c input → ⊥
+wants_none (Converting tally first between last) s input reads w e = wrong (sym (e.0) ∙ w)
+wants_none (Listing traced t) s input reads w e = wrong (sym (e.0) ∙ w)
+wants_none Migrating s input reads w e = reads
+wants_none (RecordingTape t) s input reads w e = reads
+wants_none PlayingFile s input reads w e = reads
+wants_none (GuardingTape t) s input reads w e = reads
+wants_none (Selftesting start count) s input reads w e = reads
+
+pub no_fault : (c : Command) (s : Spec) (input : List ℕ) (f : Fault) → ReadsOne c s → may_want_memory c ≡ false →
+    Shows c input f → ⊥
+no_fault c s input (fault.Tape f) reads w e = no_fault-of c s input (fault.Tape f) reads e
+no_fault c s input (fault.File f) reads w e = no_fault-of c s input (fault.File f) reads e
+no_fault c s input fault.LongTrack reads w e = leaves_none c s input full.Track reads e
+no_fault c s input (fault.LongGap was now) reads w e = leaves_none c s input (full.Gap was now) reads e
+no_fault c s input fault.Memory reads w e = wants_none c s input reads w e
 
 pub one-reads : (c : Command) (s : Spec) → ReadsOne c s → reads_from c 0 ≡ true
 one-reads (Converting tally first between last) s e = refl
 one-reads (Listing traced t) s e = refl
 one-reads Migrating s e = absurd e
+one-reads (RecordingTape t) s e = absurd e
 one-reads PlayingFile s e = absurd e
 one-reads (GuardingTape t) s e = absurd e
 one-reads (Selftesting start count) s e = absurd e
@@ -513,28 +598,23 @@ cut-at_end words limit before after faults faults_now answer c s reads all m a =
 -- an answer that is none of the others comes at the end
 pub reads_all : (words : List (List ℕ)) (limit : ℕ) (before after : Contents) (reads writes : Type 0)
     (status : Status) (c : Command) →
-    Means words c → MayAnswerWords words status → may_want_memory c ≡ false →
+    Means words c → MayAnswerWords words status →
     (status ≡ Stopped ReadFault → reads) → (status ≡ Stopped Refused → writes) → (reads → ⊥) → (writes → ⊥) →
     length (before.left 0) < limit →
-    ((input : List ℕ) (g : Fault) → IsFront input (before.left 0) → fault_of c input ≡ Some g → ⊥) →
+    ((input : List ℕ) (g : Fault) → IsFront input (before.left 0) → Shows c input g → ⊥) →
     RanWords words limit before after status → read_all (code_of status) ≡ true
-reads_all words limit before after reads writes Done c m may w r f nr nw short sound ran = refl
-reads_all words limit before after reads writes Noted c m may w r f nr nw short sound ran = refl
-reads_all words limit before after reads writes Usage c m may w r f nr nw short sound ran = absurd (may.usage refl c m)
-reads_all words limit before after reads writes Cut c m may w r f nr nw short sound ran = refl
-reads_all words limit before after reads writes NoMemory c m may w r f nr nw short sound ran =
-    let wants = (ran.ends c m).3 in
-    absurd (wrong (sym wants ∙ w))
-reads_all words limit before after reads writes (Stopped ReadFault) c m may w r f nr nw short sound ran =
+reads_all words limit before after reads writes Done c m may r f nr nw short sound ran = refl
+reads_all words limit before after reads writes Noted c m may r f nr nw short sound ran = refl
+reads_all words limit before after reads writes Usage c m may r f nr nw short sound ran = absurd (may.usage refl c m)
+reads_all words limit before after reads writes Cut c m may r f nr nw short sound ran = refl
+reads_all words limit before after reads writes (Stopped ReadFault) c m may r f nr nw short sound ran =
     absurd (nr (r refl))
-reads_all words limit before after reads writes (Stopped Refused) c m may w r f nr nw short sound ran =
+reads_all words limit before after reads writes (Stopped Refused) c m may r f nr nw short sound ran =
     absurd (nw (f refl))
-reads_all words limit before after reads writes (Stopped TooLong) c m may w r f nr nw short sound ran =
+reads_all words limit before after reads writes (Stopped TooLong) c m may r f nr nw short sound ran =
     absurd (omega (arith, short, (ran.ends c m).0, ap length (ran.front).1, length-append ran.input (ran.front).0))
-reads_all words limit before after reads writes (Stopped (Faulty (fault.Tape g))) c m may w r f nr nw short sound ran =
-    absurd (sound ran.input (fault.Tape g) ran.front (ran.ends c m).2)
-reads_all words limit before after reads writes (Stopped (Faulty (fault.File g))) c m may w r f nr nw short sound ran =
-    absurd (sound ran.input (fault.File g) ran.front (ran.ends c m).2)
+reads_all words limit before after reads writes (Stopped (Faulty g)) c m may r f nr nw short sound ran =
+    absurd (sound ran.input g ran.front (ran.ends c m).2)
 
 -- of a conversion of a whole input, that is 0
 pub completes : (words : List (List ℕ)) (limit : ℕ) (before after : Contents) (faults faults_now answer : ℕ)
@@ -558,6 +638,7 @@ means-noted words (Converting tally first between last) m e = absurd (wrong (sym
 means-noted words (Listing true s) m e = absurd (wrong (sym e))
 means-noted words (Listing false s) m e = (s, m)
 means-noted words Migrating m e = absurd (wrong (sym e))
+means-noted words (RecordingTape s) m e = absurd (wrong (sym e))
 means-noted words PlayingFile m e = absurd (wrong (sym e))
 means-noted words (GuardingTape s) m e = absurd (wrong (sym e))
 means-noted words (Selftesting start count) m e = absurd (wrong (sym e))
@@ -566,6 +647,7 @@ means-file : (words : List (List ℕ)) (c : Command) → Means words c → reads
 means-file words (Converting tally first between last) m e = absurd (wrong (sym e))
 means-file words (Listing traced s) m e = absurd (wrong (sym e))
 means-file words Migrating m e = absurd (wrong (sym e))
+means-file words (RecordingTape s) m e = absurd (wrong (sym e))
 means-file words PlayingFile m e = m
 means-file words (GuardingTape s) m e = absurd (wrong (sym e))
 means-file words (Selftesting start count) m e = absurd (wrong (sym e))
@@ -595,7 +677,6 @@ usage_only words status answer number may = (
     by_status Done may none = absurd (meant Done may none (other_status Done Usage (λ e. omega (arith, e))))
     by_status Noted may none = absurd (meant Noted may none (other_status Noted Usage (λ e. omega (arith, e))))
     by_status Cut may none = absurd (meant Cut may none (other_status Cut Usage (λ e. omega (arith, e))))
-    by_status NoMemory may none = absurd (meant NoMemory may none (other_status NoMemory Usage (λ e. omega (arith, e))))
     by_status (Stopped stop) may none = absurd (meant (Stopped stop) may none (λ e. not_stopped stop e))
 
 pub is_meant : (words : List (List ℕ)) (status : Status) (answer : ℕ) → answer ≡ code_of status →
@@ -634,7 +715,7 @@ pub wants_memory : (words : List (List ℕ)) (status : Status) (answer : ℕ) �
     MayAnswerWords words status → answer ≡ 9 →
     (c : Command) × Means words c × (may_want_memory c ≡ true)
 wants_memory words status answer number may nine =
-    let same = same_status status NoMemory refl (sym number ∙ nine) in
+    let same = no_memory status (sym number ∙ nine) in
     let m = may.other (other_status status Usage (λ e. omega (arith, number, nine, e))) in
     (m.0, m.1, subst (MayAnswer m.0) same m.2)
 
@@ -678,8 +759,15 @@ selftest-ends words start count status answer number may means = by_status statu
     by_status Noted e may =
         absurd (wrong (sym (its Noted may (other_status Noted Usage (λ e. omega (arith, e))))))
     by_status Cut e may = absurd (wrong (sym (its Cut may (other_status Cut Usage (λ e. omega (arith, e))))))
-    by_status NoMemory e may =
-        absurd (wrong (sym (its NoMemory may (other_status NoMemory Usage (λ e. omega (arith, e))))))
+    by_status (Stopped (Faulty fault.LongTrack)) e may =
+        absurd (wrong (sym (its (Stopped (Faulty fault.LongTrack)) may
+        (other_status (Stopped (Faulty fault.LongTrack)) Usage (λ e. omega (arith, e))))))
+    by_status (Stopped (Faulty (fault.LongGap was now))) e may =
+        absurd (wrong (sym (its (Stopped (Faulty (fault.LongGap was now))) may
+        (other_status (Stopped (Faulty (fault.LongGap was now))) Usage (λ e. omega (arith, e))))))
+    by_status (Stopped (Faulty fault.Memory)) e may =
+        absurd (wrong (sym (its (Stopped (Faulty fault.Memory)) may
+        (other_status (Stopped (Faulty fault.Memory)) Usage (λ e. omega (arith, e))))))
     by_status (Stopped ReadFault) e may =
         absurd (wrong (sym (its (Stopped ReadFault) may
         (other_status (Stopped ReadFault) Usage (λ e. omega (arith, e))))))

@@ -9,14 +9,18 @@ use Rattle.mb_carrier.specs.Carrier.{whole}
 use Rattle.mb_carrier.specs.declared.spec.Spec.{Spec}
 use Rattle.mb_frames.specs.declared.tape.TapeFault.{TapeFault}
 use Rattle.mb_smf.specs.declared.fault.SmfFault.{SmfFault}
-use Rattle.mb_words.specs.Command.{Command, Converting, Listing, Migrating, PlayingFile, GuardingTape, Selftesting, Means}
-use Rattle.mb_top.specs.Output.{fault_of, in_file, in_tape, is_whole, may_want_memory, output_of, stopped_output_of}
+use Rattle.mb_words.specs.Command.{Command, Converting, Listing, Migrating, RecordingTape, PlayingFile, GuardingTape}
+use Rattle.mb_words.specs.Command.{Selftesting, Means}
+use Rattle.mb_top.specs.Output.{fault_of, in_file, in_tape, is_whole, output_of, stopped_output_of, LeavesOut, Shows}
+use Rattle.mb_top.specs.Output.{WantsMemory}
+use Rattle.mb_smf.specs.declared.writer.SmfFull.{SmfFull}
+use Rattle.mb_smf.specs.declared.writer.SmfFull.TheVariants as full
 use Rattle.mb_top.specs.Output.{reads_from, reads_tape, rewrites}
 use Rattle.mb_top.specs.Answer.{Answered, EndsAs, taken_off, added_to, code_of, read_all}
 use Rattle.mb_top.specs.declared.fault.Fault.{Fault}
 use Rattle.mb_top.specs.declared.fault.Fault.TheVariants as fault
 use Rattle.mb_top.specs.declared.status.Status.{Status}
-use Rattle.mb_top.specs.declared.status.Status.TheVariants.{Done, Noted, Usage, Cut, NoMemory, Stopped}
+use Rattle.mb_top.specs.declared.status.Status.TheVariants.{Done, Noted, Usage, Cut, Stopped}
 use Rattle.mb_top.specs.declared.status.Stop.TheVariants.{ReadFault, Refused, TooLong, Faulty}
 use Rattle.mb_top.proofs.AnswerLemmas.{ends-at_status}
 
@@ -26,28 +30,33 @@ wrong e = cc
 -- such a command
 pub record WritesAll (c : Command) : Type 0 where
   pub stopped : (input : List ℕ) → stopped_output_of c input ≡ output_of c input
-  pub no_memory : may_want_memory c ≡ false
+  pub no_left_out : (input : List ℕ) (why : SmfFull) → LeavesOut c input why → ⊥
+  pub no_want : (input : List ℕ) → WantsMemory c input → ⊥
   pub no_notes : (left input output tally : List ℕ) (limit : ℕ) → EndsAs c limit left input output tally Noted → ⊥
   pub reads : reads_from c 0 ≡ true
 
 pub writes-all : (c : Command) → rewrites c ≡ true → WritesAll c
 writes-all (Converting tally first between last) e = absurd (wrong (sym e))
 writes-all (Listing traced s) e = absurd (wrong (sym e))
+writes-all (RecordingTape s) e = absurd (wrong (sym e))
 writes-all Migrating e = record {
   stopped = λ input. refl;
-  no_memory = refl;
+  no_left_out = λ input why e. e;
+  no_want = λ input e. wrong (sym (e.0));
   no_notes = λ left input output tally limit ends. ends.2;
   reads = refl;
 }
 writes-all PlayingFile e = record {
   stopped = λ input. refl;
-  no_memory = refl;
+  no_left_out = λ input why e. e;
+  no_want = λ input e. wrong (sym (e.0));
   no_notes = λ left input output tally limit ends. ends.2;
   reads = refl;
 }
 writes-all (GuardingTape s) e = record {
   stopped = λ input. refl;
-  no_memory = refl;
+  no_left_out = λ input why e. e;
+  no_want = λ input e. wrong (sym (e.0));
   no_notes = λ left input output tally limit ends. ends.2;
   reads = refl;
 }
@@ -88,7 +97,6 @@ by_status c limit left read written tally Cut w other ends =
       told = sound-at c read 5 (λ e. omega (arith, e)) (λ e. omega (arith, e)) (ends.0).sound;
       end = λ all. (sym ((ends.0).all w.reads), (λ e. ends.1, λ h. refl));
     }
-by_status c limit left read written tally NoMemory w other ends = absurd (wrong (sym (ends.3) ∙ w.no_memory))
 by_status c limit left read written tally (Stopped ReadFault) w other ends =
     record {
       written_is = ends.0 ∙ w.stopped read;
@@ -114,6 +122,13 @@ by_status c limit left read written tally (Stopped (Faulty (fault.File f))) w ot
       told = subst (λ (x : Option Fault). Tells x 13) (sym (ends.2)) refl;
       end = λ all. absurd (wrong (sym all));
     }
+
+by_status c limit left read written tally (Stopped (Faulty fault.LongTrack)) w other ends =
+    absurd (w.no_left_out read full.Track (ends.2))
+by_status c limit left read written tally (Stopped (Faulty (fault.LongGap was now))) w other ends =
+    absurd (w.no_left_out read (full.Gap was now) (ends.2))
+by_status c limit left read written tally (Stopped (Faulty fault.Memory)) w other ends =
+    absurd (w.no_want read (ends.2))
 
 pub carried : (words : List (List ℕ)) (limit : ℕ) (before after : Contents) (faults faults_now answer : ℕ)
     (c : Command) → WritesAll c →
@@ -145,12 +160,14 @@ carried-completes words limit before after faults faults_now answer c w m all is
     by_end Noted e ends = absurd (w.no_notes _ _ _ _ limit ends)
     by_end Cut e ends = absurd (wrong (sym is ∙ (ap (is_whole c) ((ends.0).all w.reads) ∙ ends.1)))
     by_end Usage e ends = absurd ends
-    by_end NoMemory e ends = absurd (wrong (sym e))
     by_end (Stopped ReadFault) e ends = absurd (wrong (sym e))
     by_end (Stopped Refused) e ends = absurd (wrong (sym e))
     by_end (Stopped TooLong) e ends = absurd (wrong (sym e))
     by_end (Stopped (Faulty (fault.Tape f))) e ends = absurd (wrong (sym e))
     by_end (Stopped (Faulty (fault.File f))) e ends = absurd (wrong (sym e))
+    by_end (Stopped (Faulty fault.LongTrack)) e ends = absurd (wrong (sym e))
+    by_end (Stopped (Faulty (fault.LongGap was now))) e ends = absurd (wrong (sym e))
+    by_end (Stopped (Faulty fault.Memory)) e ends = absurd (wrong (sym e))
 
 -- of a tape, and of a file
 
@@ -159,6 +176,7 @@ pub tape_fault-told : (c : Command) (read : List ℕ) (answer : ℕ) → rewrite
     Tells (fault_of c read) answer → (answer ≡ 7) ↔ IsSome (tape_fault read)
 tape_fault-told (Converting tally first between last) read answer r e t = absurd (wrong (sym r))
 tape_fault-told (Listing traced s) read answer r e t = absurd (wrong (sym r))
+tape_fault-told (RecordingTape s) read answer r e t = absurd (wrong (sym r))
 tape_fault-told Migrating read answer r e t = tape-told (tape_fault read) answer t
 tape_fault-told PlayingFile read answer r e t = absurd (wrong (sym e))
 tape_fault-told (GuardingTape s) read answer r e t = tape-told (tape_fault read) answer t
@@ -178,3 +196,12 @@ whole-tape s tape e = first (tape_whole tape) (whole s (recording 0 (track_recor
     first : (a b : Bool) → (a && b) ≡ true → a ≡ true
     first true b e = refl
     first false b e = absurd (wrong (sym e))
+
+-- what has no fault shows nothing that keeps such a command from going on
+pub shows-none : (c : Command) (input : List ℕ) → WritesAll c → ((g : Fault) → fault_of c input ≡ Some g → ⊥) →
+    (f : Fault) → Shows c input f → ⊥
+shows-none c input w sound (fault.Tape f) e = sound (fault.Tape f) e
+shows-none c input w sound (fault.File f) e = sound (fault.File f) e
+shows-none c input w sound fault.LongTrack e = w.no_left_out input full.Track e
+shows-none c input w sound (fault.LongGap was now) e = w.no_left_out input (full.Gap was now) e
+shows-none c input w sound fault.Memory e = w.no_want input e

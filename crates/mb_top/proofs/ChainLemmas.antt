@@ -18,6 +18,7 @@ use Rattle.mb_chain.proofs.RowLemmas.{live-chain, through-chain, row-closes}
 use Rattle.mb_words.specs.Meaning.{front_of, end_of, converting}
 use Rattle.mb_words.proofs.CommandLemmas.{specs_again}
 use Rattle.mb_top.specs.Output.{output_of, live_output_of, is_whole, arriving, HasNoNotes, fault_of}
+use Rattle.mb_top.specs.Output.{CanWrite}
 use Rattle.mb_top.specs.Job.{ChainOf, JobFed, JobHalted, JobEnded, JobEndHalted}
 
 -- what was written stays written, and the end stands behind it
@@ -85,7 +86,7 @@ no_fault tally (first ∷ s ∷ specs) bytes = refl
 pub chain-fed : (tally : Bool) (specs : List Spec) (chain now : Chain) (piece : List ℕ) (took : List ℕ → Type 0) →
     ChainOf specs chain → chain_links now ≡ chain_links chain →
     ChainFed (chain_links chain) (ChainStands chain) (ChainStands now) piece took →
-    JobFed (converting tally specs) (Stands specs chain) (Stands specs now) piece None took
+    JobFed (converting tally specs) (Stands specs chain) (Stands specs now) (Stands specs now) piece None took
 chain-fed tally specs chain now piece took c same f =
     record {
       given = f.given;
@@ -95,7 +96,8 @@ chain-fed tally specs chain now piece took c same f =
           sym (live-is tally specs (chain_links chain) (bytes ++ piece) c.links c.some)
           ∙ (f.beyond bytes h.1 ∙ ap (λ xs. xs ++ f.given)
           (live-is tally specs (chain_links chain) bytes c.links c.some));
-      fault_is = λ bytes h. no_fault tally specs (bytes ++ piece);
+      may_stop = λ bytes h. (chain-of specs chain now same h.0, f.stands bytes h.1);
+      kept = λ bytes h. no_fault tally specs (bytes ++ piece);
     }
 
 pub chain-halted : (tally : Bool) (specs : List Spec) (chain : Chain) (piece : List ℕ) (took : List ℕ → Type 0) →
@@ -118,18 +120,24 @@ pub chain-ended : (tally : Bool) (specs : List Spec) (chain now : Chain) (took :
     ChainFinished (chain_links chain) (ChainStands chain) (ChainEnded now) took →
     JobEnded (converting tally specs) (Stands specs chain)
     (λ bytes. ChainOf specs now × ChainEnded now bytes) false took
-chain-ended tally specs chain now took c same f =
+chain-ended tally specs chain now took c same f = λ bytes h.
     record {
       given = f.given;
       took_it = f.took_it;
-      stands = λ bytes h. (chain-of specs chain now same h.0, f.counted bytes h.1);
-      beyond = λ bytes h.
+      stands = (chain-of specs chain now same h.0, f.counted bytes h.1);
+      beyond =
           sym (through-is tally specs (chain_links chain) bytes c.links c.some)
           ∙ (f.beyond bytes h.1 ∙ ap (λ xs. xs ++ f.given)
           (live-is tally specs (chain_links chain) bytes c.links c.some));
-      notes = λ bytes h. no_remark tally specs bytes c.some;
+      can = can_be tally specs bytes;
+      notes = no_remark tally specs bytes c.some;
     }
   where
+    can_be : (tally : Bool) (specs : List Spec) (bytes : List ℕ) → CanWrite (converting tally specs) bytes
+    can_be tally [] bytes = tt
+    can_be tally (first ∷ []) bytes = tt
+    can_be tally (first ∷ s ∷ specs) bytes = tt
+
     no_remark : (tally : Bool) (specs : List Spec) (bytes : List ℕ) → 2 ≤ length specs →
         HasNoNotes (converting tally specs) bytes
     no_remark tally [] bytes some = absurd (omega (arith, some))
@@ -140,11 +148,11 @@ pub chain-end_halted : (tally : Bool) (specs : List Spec) (chain : Chain) (took 
     ChainOf specs chain →
     ChainEndHalted (chain_links chain) (ChainStands chain) took →
     JobEndHalted (converting tally specs) (Stands specs chain) took
-chain-end_halted tally specs chain took c f =
+chain-end_halted tally specs chain took c f = λ bytes h.
     record {
       given = f.given;
       took_it = f.took_it;
-      part = λ bytes h.
+      part =
           subst (IsPart (live_output_of (converting tally specs) bytes ++ f.given))
           (through-is tally specs (chain_links chain) bytes c.links c.some)
           (subst (λ (xs : List ℕ). IsPart (xs ++ f.given) (through_over (chain_links chain) none_set bytes))

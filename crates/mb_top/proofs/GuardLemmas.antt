@@ -19,9 +19,10 @@ use Rattle.mb_rewrite.proofs.LineLemmas.{ended-more}
 use Rattle.mb_rewrite.proofs.EndLemmas.{tape-front}
 use Rattle.mb_words.specs.Command.{GuardingTape}
 use Rattle.mb_top.specs.Output.{in_tape, is_whole}
-use Rattle.mb_top.specs.Job.{job_command, JobStands, JobDone, JobFed, JobHalted, JobEnded, JobEndHalted, JobStopped}
+use Rattle.mb_top.specs.Job.{job_command, JobStands, JobStops, JobDone, JobFed, JobHalted, JobEnded, JobEndHalted, JobStopped}
 use Rattle.mb_top.specs.Job.{JobTold}
 use Rattle.mb_top.specs.declared.fault.Fault.{Fault}
+use Rattle.mb_top.proofs.KeptLemmas.{kept-tape}
 use Rattle.mb_top.specs.declared.job.Job.{Job}
 use Rattle.mb_top.specs.declared.job.Job.TheVariants as job
 
@@ -48,15 +49,18 @@ guarded-closes s (b ∷ bs) =
 pub job-guard_fed : (j : Job) (g now : Guarding) (piece : List ℕ) (told : Option TapeFault) (fault : Option Fault)
     (took : List ℕ → Type 0) → j ≡ job.Guard g → fault ≡ in_tape told →
     Rewrote (GuardingStands g) (GuardingStands now) (guarded_so_far (guarding_spec g)) piece told took →
-    JobFed (job_command j) (JobStands j) (JobStands (job.Guard now)) piece fault took
+    JobFed (job_command j) (JobStands j) (JobStands (job.Guard now)) (JobStops (job.Guard now)) piece fault took
 job-guard_fed j g now piece told fault took e is r =
-    subst (λ (k : Job). JobFed (job_command k) (JobStands k) (JobStands (job.Guard now)) piece fault took) (sym e)
+    subst (λ (k : Job). JobFed (job_command k) (JobStands k) (JobStands (job.Guard now)) (JobStops (job.Guard now)) piece fault
+    took) (sym e)
     (record {
       given = r.given;
       took_it = r.took_it;
-      stands = r.stands;
+      stands = λ none. r.stands;
+      may_stop = r.stands;
       beyond = r.beyond;
-      fault_is = λ bytes h. ap in_tape (r.fault_is bytes h) ∙ sym is;
+      kept = λ bytes h. kept-tape (GuardingTape (guarding_spec g)) (bytes ++ piece) told fault is
+          (ap in_tape (r.fault_is bytes h));
     })
 
 pub job-guard_halted : (j : Job) (g : Guarding) (piece : List ℕ) (took : List ℕ → Type 0) → j ≡ job.Guard g →
@@ -72,19 +76,20 @@ pub job-guard_ended : (j : Job) (g now : Guarding) (took : List ℕ → Type 0) 
     JobEnded (job_command j) (JobStands j) (JobDone (job.Guard now)) false took
 job-guard_ended j g now took e r =
     subst (λ (k : Job). JobEnded (job_command k) (JobStands k) (JobDone (job.Guard now)) false took) (sym e)
-    (record {
+    (λ bytes h. record {
       given = r.given;
       took_it = r.took_it;
-      stands = λ bytes h. tt;
-      beyond = r.beyond;
-      notes = λ bytes h. tt;
+      stands = tt;
+      beyond = r.beyond bytes h;
+      can = tt;
+      notes = tt;
     })
 
 pub job-guard_stopped : (j : Job) (g : Guarding) (took : List ℕ → Type 0) → j ≡ job.Guard g →
     RewroteEnd (GuardingStands g) (guarded_so_far (guarding_spec g)) (guarded_tape (guarding_spec g)) took →
-    JobStopped (job_command j) (JobStands j) took
+    JobStopped (job_command j) (JobStops j) took
 job-guard_stopped j g took e r =
-    subst (λ (k : Job). JobStopped (job_command k) (JobStands k) took) (sym e)
+    subst (λ (k : Job). JobStopped (job_command k) (JobStops k) took) (sym e)
     (record { given = r.given; took_it = r.took_it; beyond = r.beyond })
 
 pub job-guard_end_halted : (j : Job) (g : Guarding) (took : List ℕ → Type 0) → j ≡ job.Guard g →
@@ -92,7 +97,14 @@ pub job-guard_end_halted : (j : Job) (g : Guarding) (took : List ℕ → Type 0)
     JobEndHalted (job_command j) (JobStands j) took
 job-guard_end_halted j g took e r =
     subst (λ (k : Job). JobEndHalted (job_command k) (JobStands k) took) (sym e)
-    (record { given = r.given; took_it = r.took_it; part = r.part })
+    (λ bytes h. record { given = r.given; took_it = r.took_it; part = r.part bytes h })
+
+pub job-guard_stop_halted : (j : Job) (g : Guarding) (took : List ℕ → Type 0) → j ≡ job.Guard g →
+    RewriteHalted (GuardingStands g) (guarded_so_far (guarding_spec g)) (guarded_tape (guarding_spec g)) took →
+    JobEndHalted (job_command j) (JobStops j) took
+job-guard_stop_halted j g took e r =
+    subst (λ (k : Job). JobEndHalted (job_command k) (JobStops k) took) (sym e)
+    (λ bytes h. record { given = r.given; took_it = r.took_it; part = r.part bytes h })
 
 pub guard-at : (j : Job) (g : Guarding) (bytes : List ℕ) → j ≡ job.Guard g → JobStands j bytes →
     GuardingStands g bytes

@@ -14,9 +14,10 @@ use Rattle.mb_tapes.proofs.PlayedLaw as law
 use Rattle.mb_tapes.proofs.PlayingLemmas.{over-fault}
 use Rattle.mb_words.specs.Command.{PlayingFile}
 use Rattle.mb_top.specs.Output.{in_file, is_whole}
-use Rattle.mb_top.specs.Job.{job_command, JobStands, JobDone, JobFed, JobHalted, JobEnded, JobEndHalted, JobStopped}
+use Rattle.mb_top.specs.Job.{job_command, JobStands, JobStops, JobDone, JobFed, JobHalted, JobEnded, JobEndHalted, JobStopped}
 use Rattle.mb_top.specs.Job.{JobTold}
 use Rattle.mb_top.specs.declared.fault.Fault.{Fault}
+use Rattle.mb_top.proofs.KeptLemmas.{kept-file}
 use Rattle.mb_top.specs.declared.job.Job.{Job}
 use Rattle.mb_top.specs.declared.job.Job.TheVariants as job
 
@@ -57,16 +58,18 @@ job-play_rests j p piece e w = law.rests p w.0 (player-at j p w.0 e w.1)
 pub job-play_fed : (j : Job) (p now : Playing) (piece : List ℕ) (told : Option SmfFault) (fault : Option Fault)
     (took : List ℕ → Type 0) → j ≡ job.Play p → 0 < length piece → fault ≡ in_file told →
     now ≡ playing_behind p piece → told ≡ playing_fault now → took (playing_given p piece) →
-    JobFed (job_command j) (JobStands j) (JobStands (job.Play now)) piece fault took
+    JobFed (job_command j) (JobStands j) (JobStands (job.Play now)) (JobStops (job.Play now)) piece fault took
 job-play_fed j p now piece told fault took e some is state told_is given =
-    subst (λ (k : Job). JobFed (job_command k) (JobStands k) (JobStands (job.Play now)) piece fault took) (sym e)
+    subst (λ (k : Job). JobFed (job_command k) (JobStands k) (JobStands (job.Play now)) (JobStops (job.Play now)) piece fault
+    took) (sym e)
     (record {
       given = playing_given p piece;
       took_it = given;
-      stands = stands_at;
+      stands = λ none. stands_at;
+      may_stop = stands_at;
       beyond = λ bytes h. law.given p bytes piece h some;
-      fault_is = λ bytes h.
-          ap in_file (sym (law.fault now (bytes ++ piece) (stands_at bytes h)) ∙ sym told_is) ∙ sym is;
+      kept = λ bytes h. kept-file PlayingFile (bytes ++ piece) told fault is
+          (ap in_file (sym (law.fault now (bytes ++ piece) (stands_at bytes h)) ∙ sym told_is));
     })
   where
     stands_at : (bytes : List ℕ) → PlayingStands p bytes → PlayingStands now (bytes ++ piece)
@@ -89,28 +92,41 @@ pub job-play_ended : (j : Job) (p now : Playing) (took : List ℕ → Type 0) �
     JobEnded (job_command j) (JobStands j) (JobDone (job.Play now)) false took
 job-play_ended j p now took e given =
     subst (λ (k : Job). JobEnded (job_command k) (JobStands k) (JobDone (job.Play now)) false took) (sym e)
-    (record {
+    (λ bytes h. record {
       given = playing_end p;
       took_it = given;
-      stands = λ bytes h. tt;
-      beyond = λ bytes h. law.whole p bytes h;
-      notes = λ bytes h. tt;
+      stands = tt;
+      beyond = law.whole p bytes h;
+      can = tt;
+      notes = tt;
     })
 
 pub job-play_stopped : (j : Job) (p : Playing) (took : List ℕ → Type 0) → j ≡ job.Play p → took (playing_end p) →
-    JobStopped (job_command j) (JobStands j) took
+    JobStopped (job_command j) (JobStops j) took
 job-play_stopped j p took e given =
-    subst (λ (k : Job). JobStopped (job_command k) (JobStands k) took) (sym e)
+    subst (λ (k : Job). JobStopped (job_command k) (JobStops k) took) (sym e)
     (record { given = playing_end p; took_it = given; beyond = λ bytes h. law.whole p bytes h })
 
 pub job-play_end_halted : (j : Job) (p : Playing) (took : List ℕ → Type 0) → j ≡ job.Play p →
     ((front : List ℕ) × IsPart front (playing_end p) × took front) → JobEndHalted (job_command j) (JobStands j) took
 job-play_end_halted j p took e front =
     subst (λ (k : Job). JobEndHalted (job_command k) (JobStands k) took) (sym e)
-    (record {
+    (λ bytes h. record {
       given = front.0;
       took_it = front.2;
-      part = λ bytes h.
+      part =
+          subst (IsPart (played_so_far bytes ++ front.0)) (sym (law.whole p bytes h))
+          (part-behind (played_so_far bytes) front.0 (playing_end p) front.1);
+    })
+
+pub job-play_stop_halted : (j : Job) (p : Playing) (took : List ℕ → Type 0) → j ≡ job.Play p →
+    ((front : List ℕ) × IsPart front (playing_end p) × took front) → JobEndHalted (job_command j) (JobStops j) took
+job-play_stop_halted j p took e front =
+    subst (λ (k : Job). JobEndHalted (job_command k) (JobStops k) took) (sym e)
+    (λ bytes h. record {
+      given = front.0;
+      took_it = front.2;
+      part =
           subst (IsPart (played_so_far bytes ++ front.0)) (sym (law.whole p bytes h))
           (part-behind (played_so_far bytes) front.0 (playing_end p) front.1);
     })

@@ -3,6 +3,7 @@ use Rattle.std.proofs.Common.{◌≡◌, ℕ, true, false, List, [], ◌∷◌, 
 use Rattle.mb_message.specs.Front.{IsFront}
 use Rattle.mb_outside.specs.Contents.{Contents}
 use Rattle.mb_top.specs.declared.fault.Fault.{Fault}
+use Rattle.mb_top.specs.declared.fault.Fault.TheVariants as its
 use Rattle.mb_stream.specs.Lacking.{Lacks}
 use Rattle.mb_stream.specs.MeaningFront.{IsMeaningFront}
 use Rattle.mb_carrier.specs.Carrier.{den}
@@ -18,7 +19,7 @@ use Rattle.mb_words.specs.Command.{Command, Means}
 use Rattle.mb_top.specs.Output.{stopped_output_of}
 use Rattle.mb_top.specs.Answer.{Answered, EndsAs, taken_off, added_to, code_of, read_part}
 use Rattle.mb_top.specs.declared.status.Status.{Status}
-use Rattle.mb_top.specs.declared.status.Status.TheVariants.{Done, Noted, Usage, Cut, NoMemory, Stopped}
+use Rattle.mb_top.specs.declared.status.Status.TheVariants.{Done, Noted, Usage, Cut, Stopped}
 use Rattle.mb_top.specs.declared.status.Stop.TheVariants.{ReadFault, Refused, TooLong, Faulty}
 
 wrong : false ≡ true → ⊥
@@ -29,13 +30,16 @@ before_the_end : (claim : Status → Type 0) → claim (Stopped ReadFault) → c
     ((f : Fault) → claim (Stopped (Faulty f))) → (s : Status) → read_part (code_of s) ≡ true → claim s
 before_the_end claim fault long bad (Stopped ReadFault) e = fault
 before_the_end claim fault long bad (Stopped TooLong) e = long
-before_the_end claim fault long bad (Stopped (Faulty f)) e = bad f
+before_the_end claim fault long bad (Stopped (Faulty (its.Tape f))) e = bad (its.Tape f)
+before_the_end claim fault long bad (Stopped (Faulty (its.File f))) e = bad (its.File f)
+before_the_end claim fault long bad (Stopped (Faulty its.LongTrack)) e = absurd (wrong e)
+before_the_end claim fault long bad (Stopped (Faulty (its.LongGap was now))) e = absurd (wrong e)
+before_the_end claim fault long bad (Stopped (Faulty its.Memory)) e = absurd (wrong e)
 before_the_end claim fault long bad (Stopped Refused) e = absurd (wrong e)
 before_the_end claim fault long bad Done e = absurd (wrong e)
 before_the_end claim fault long bad Noted e = absurd (wrong e)
 before_the_end claim fault long bad Usage e = absurd (wrong e)
 before_the_end claim fault long bad Cut e = absurd (wrong e)
-before_the_end claim fault long bad NoMemory e = absurd (wrong e)
 
 pub live_written : (words : List (List ℕ)) (limit : ℕ) (before after : Contents) (faults faults_now answer : ℕ)
     (c : Command) →

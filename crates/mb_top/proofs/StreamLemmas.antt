@@ -20,12 +20,16 @@ use Rattle.mb_top.specs.declared.fault.Fault.TheVariants as fault
 use Rattle.mb_top.specs.declared.status.Stop.{Stop}
 use Rattle.mb_top.proofs.ChainLemmas.{chain-none}
 use Rattle.mb_top.proofs.JobLemmas.{command-stays, command-closes}
-use Rattle.mb_words.specs.Command.{Command, Converting, Listing, Migrating, PlayingFile, GuardingTape, Selftesting}
+use Rattle.mb_words.specs.Command.{Command, Converting, Listing, Migrating, RecordingTape, PlayingFile, GuardingTape}
+use Rattle.mb_words.specs.Command.{Selftesting}
 use Rattle.mb_top.specs.Output.{fault_of, in_file, in_tape, output_of, is_whole, live_output_of, stopped_output_of}
-use Rattle.mb_top.specs.Output.{tally_of, writes_at_stop}
-use Rattle.mb_top.specs.Job.{JobFed, JobHalted, JobEnded, JobEndHalted, JobStopped, JobTold, JobTellHalted, Remarked}
+use Rattle.mb_top.specs.Output.{tally_of, may_want_memory, reads_tape, reads_file, records, LeavesOut, Shows, WantsMemory}
+use Rattle.mb_smf.specs.declared.writer.SmfFull.{SmfFull}
+use Rattle.mb_smf.specs.declared.writer.SmfFull.TheVariants as full
+use Rattle.mb_top.specs.Job.{JobFed, JobHalted, JobEndedAt, JobEndHaltedAt, JobStopped, JobKept, JobTold}
+use Rattle.mb_top.specs.Job.{JobTellHalted, Remarked}
 use Rattle.mb_top.specs.Answer.{EndsAs, DidAll, WroteFront, all_but_last, PIECE}
-use Rattle.mb_top.specs.Ran.{Ran, RanEnd, RanStop, Faulted, HasStopped, MayAnswer, at_end, written_of}
+use Rattle.mb_top.specs.Ran.{Closed, Ran, RanEnd, RanStop, MayAnswer, at_end, written_of}
 use Rattle.mb_top.specs.declared.status.Status.{Status}
 use Rattle.mb_top.specs.declared.status.Status.TheVariants.{Stopped}
 use Rattle.mb_top.specs.declared.status.Stop.TheVariants.{ReadFault, Refused, TooLong, Faulty}
@@ -57,6 +61,7 @@ live-none : (c : Command) → live_output_of c [] ≡ []
 live-none (Converting tally first between last) = chain-none first between last
 live-none (Listing traced s) = ap (lines_known traced s) (grows s).nothing_known
 live-none Migrating = refl
+live-none (RecordingTape s) = refl
 live-none PlayingFile = refl
 live-none (GuardingTape s) = refl
 live-none (Selftesting start count) = refl
@@ -65,6 +70,7 @@ sound-none : (c : Command) → fault_of c [] ≡ None
 sound-none (Converting tally first between last) = refl
 sound-none (Listing traced s) = refl
 sound-none Migrating = refl
+sound-none (RecordingTape s) = refl
 sound-none PlayingFile = refl
 sound-none (GuardingTape s) = refl
 sound-none (Selftesting start count) = refl
@@ -194,24 +200,57 @@ pub ran-faulty : (c d : Command) (limit count : ℕ) (before old mid now : Conte
     (f : Fault) (status : Status) → d ≡ c →
     length piece ≡ count → length bytes + count ≤ limit → Read c before old bytes piece →
     mid ≡ after_write 1 given old → live_output_of c (bytes ++ piece) ≡ live_output_of c bytes ++ given →
-    fault_of c (bytes ++ piece) ≡ Some f → RanStop d (bytes ++ piece) (Faulty f) mid now status →
+    Shows c (bytes ++ piece) f → RanStop d (bytes ++ piece) (Faulty f) mid now status →
     Ran c limit before now status
 ran-faulty c d limit count before old mid now bytes piece given f status same size within r wrote beyond fault_is told =
     ran-stop c d limit before mid now (bytes ++ piece) (Faulty f) status same
     (omega (arith, length-append bytes piece, size)) r.front
     (written-more c before old mid bytes piece given r wrote beyond) told (λ output is. (is, refl, fault_is))
 
-pub may-faulty : (c : Command) (input : List ℕ) (f : Fault) → fault_of c input ≡ Some f →
-    MayAnswer c (Stopped (Faulty f))
-may-faulty (Converting tally first between last) input f e = cc
-may-faulty (Listing traced s) input f e = cc
-may-faulty Migrating input (fault.Tape f) e = refl
-may-faulty Migrating input (fault.File f) e = absurd (no_file (tape_fault input) f e)
-may-faulty PlayingFile input (fault.File f) e = refl
-may-faulty PlayingFile input (fault.Tape f) e = absurd (no_tape ((smf input).fault) f e)
-may-faulty (GuardingTape s) input (fault.Tape f) e = refl
-may-faulty (GuardingTape s) input (fault.File f) e = absurd (no_file (tape_fault input) f e)
-may-faulty (Selftesting start count) input f e = cc
+may-tape : (c : Command) (input : List ℕ) (f : TapeFault) → fault_of c input ≡ Some (fault.Tape f) →
+    reads_tape c ≡ true
+may-tape (Converting tally first between last) input f e = cc
+may-tape (Listing traced s) input f e = cc
+may-tape Migrating input f e = refl
+may-tape (RecordingTape s) input f e = refl
+may-tape PlayingFile input f e = absurd (no_tape (smf input).fault f e)
+may-tape (GuardingTape s) input f e = refl
+may-tape (Selftesting start count) input f e = cc
+
+may-file : (c : Command) (input : List ℕ) (f : SmfFault) → fault_of c input ≡ Some (fault.File f) →
+    reads_file c ≡ true
+may-file (Converting tally first between last) input f e = cc
+may-file (Listing traced s) input f e = cc
+may-file Migrating input f e = absurd (no_file (tape_fault input) f e)
+may-file (RecordingTape s) input f e = absurd (no_file (tape_fault input) f e)
+may-file PlayingFile input f e = refl
+may-file (GuardingTape s) input f e = absurd (no_file (tape_fault input) f e)
+may-file (Selftesting start count) input f e = cc
+
+may-leave_out : (c : Command) (input : List ℕ) (why : SmfFull) → LeavesOut c input why → records c ≡ true
+may-leave_out (Converting tally first between last) input why e = absurd e
+may-leave_out (Listing traced s) input why e = absurd e
+may-leave_out Migrating input why e = absurd e
+may-leave_out (RecordingTape s) input why e = refl
+may-leave_out PlayingFile input why e = absurd e
+may-leave_out (GuardingTape s) input why e = absurd e
+may-leave_out (Selftesting start count) input why e = absurd e
+
+may-want : (c : Command) (input : List ℕ) → WantsMemory c input → may_want_memory c ≡ true
+may-want (Converting tally first between last) input e = e.0
+may-want (Listing traced s) input e = e.0
+may-want Migrating input e = e.0
+may-want (RecordingTape s) input e = refl
+may-want PlayingFile input e = e.0
+may-want (GuardingTape s) input e = e.0
+may-want (Selftesting start count) input e = e.0
+
+pub may-faulty : (c : Command) (input : List ℕ) (f : Fault) → Shows c input f → MayAnswer c (Stopped (Faulty f))
+may-faulty c input (fault.Tape f) e = may-tape c input f e
+may-faulty c input (fault.File f) e = may-file c input f e
+may-faulty c input fault.LongTrack e = may-leave_out c input full.Track e
+may-faulty c input (fault.LongGap was now) e = may-leave_out c input (full.Gap was now) e
+may-faulty c input fault.Memory e = may-want c input e
 
 -- how the stopping went, by what was handed over
 pub stop-ran : (c : Command) (bytes : List ℕ) (was : List ℕ → Type 0) (took : List ℕ → Type 0) (stop : Stop)
@@ -220,11 +259,11 @@ pub stop-ran : (c : Command) (bytes : List ℕ) (was : List ℕ → Type 0) (too
 stop-ran c bytes was took stop before now stands s wrote =
     record { output = s.given; contents = wrote; ends = inl (refl, sym (s.beyond bytes stands)) }
 
-pub stop-halted : (c : Command) (bytes : List ℕ) (was : List ℕ → Type 0) (took : List ℕ → Type 0) (stop : Stop)
-    (before now : Contents) → was bytes → (h : JobEndHalted c was took) → now ≡ after_write 1 h.given before →
+pub stop-halted : (c : Command) (bytes : List ℕ) (took : List ℕ → Type 0) (stop : Stop)
+    (before now : Contents) → (h : JobEndHaltedAt c bytes took) → now ≡ after_write 1 h.given before →
     RanStop c bytes stop before now (Stopped Refused)
-stop-halted c bytes was took stop before now stands h wrote =
-    record { output = h.given; contents = wrote; ends = inr (refl, h.part bytes stands) }
+stop-halted c bytes took stop before now h wrote =
+    record { output = h.given; contents = wrote; ends = inr (refl, h.part) }
 
 -- the end was read
 pub at-end : (c : Command) (before old now : Contents) (bytes buffer : List ℕ) (count : ℕ) →
@@ -272,29 +311,72 @@ ends-at c limit left input output tally false true w is_cut remarked =
 ends-at c limit left input output tally false false w is_cut remarked =
     (w, not-false (is_whole c input) is_cut, remarked)
 
-pub end-ran : (c d : Command) (before mid now : Contents) (bytes : List ℕ) (was done : List ℕ → Type 0)
-    (cut noted : Bool) (took tells : List ℕ → Type 0) (status : Status) →
-    d ≡ c → status ≡ at_end cut noted → was bytes → cut ≡ not (is_whole c bytes) →
-    (e : JobEnded c was done noted took) → mid ≡ after_write 1 e.given before → (t : JobTold d done tells) →
-    now ≡ after_write 2 t.given mid → RanEnd c bytes before now status
-end-ran c d before mid now bytes was done cut noted took tells status same_command same stands is_cut e wrote t told =
+pub end-ran : (c d : Command) (before mid now : Contents) (bytes : List ℕ) (done : List ℕ → Type 0)
+    (cut noted : Bool) (took : List ℕ → Type 0) (status : Status) →
+    d ≡ c → cut ≡ not (is_whole c bytes) →
+    (e : JobEndedAt c bytes done noted took) → mid ≡ after_write 1 e.given before →
+    Closed d done cut noted mid now status → RanEnd c bytes before now status
+end-ran c d before mid now bytes done cut noted took status same_command is_cut e wrote closed =
+    let k : Closed c done cut noted mid now status
+    = subst (λ (x : Command). Closed x done cut noted mid now status) same_command closed in
     record {
       output = e.given;
-      tally = t.given;
-      contents = told ∙ ap (after_write 2 t.given) wrote;
+      tally = k.tally;
+      contents = k.contents ∙ ap (after_write 2 k.tally) wrote;
       ends = λ limit below sound.
-          let w : DidAll c limit bytes bytes (live_output_of c bytes ++ e.given) t.given =
-          record {
-            all = λ reads. refl;
-            below = λ reads. below;
-            sound = sound;
-            output_is = sym (e.beyond bytes stands);
-            tally_is = t.tally bytes (e.stands bytes stands) ∙ ap (λ (x : Command). tally_of x bytes) same_command;
-          } in
-          subst (λ (x : Status). EndsAs c limit bytes bytes (live_output_of c bytes ++ e.given) t.given x) (sym same)
-          (ends-at c limit bytes bytes (live_output_of c bytes ++ e.given) t.given cut noted w is_cut
-          (e.notes bytes stands));
+          elim k.ends [
+            | inl x ↦
+                (let w : DidAll c limit bytes bytes (live_output_of c bytes ++ e.given) k.tally =
+                record {
+                  all = λ reads. refl;
+                  below = λ reads. below;
+                  sound = sound;
+                  can = e.can;
+                  output_is = sym e.beyond;
+                  tally_is = x.1 bytes e.stands;
+                } in
+                subst (λ (y : Status). EndsAs c limit bytes bytes (live_output_of c bytes ++ e.given) k.tally y)
+                (sym x.0)
+                (ends-at c limit bytes bytes (live_output_of c bytes ++ e.given) k.tally cut noted w is_cut
+                e.notes))
+            | inr x ↦
+                subst (λ (y : Status). EndsAs c limit bytes bytes (live_output_of c bytes ++ e.given) k.tally y)
+                (sym x.0)
+                (record {
+                  front = ([], e.beyond ∙ sym (append-nil (live_output_of c bytes ++ e.given)));
+                  at_least = known-front c bytes e.given;
+                  tally_front = part-front _ _ (x.1 bytes e.stands);
+                  behind = inr (sym e.beyond);
+                  unfinished = λ all told_all. part-differs _ _ (x.1 bytes e.stands) told_all;
+                })
+          ];
     }
+
+-- the end shows what keeps it from being written
+pub kept-ran : (c : Command) (before now : Contents) (bytes : List ℕ) (was : List ℕ → Type 0) (f : Fault)
+    (took : List ℕ → Type 0) → was bytes → JobKept c was f took → now ≡ after_write 1 [] before →
+    RanEnd c bytes before now (Stopped (Faulty f))
+kept-ran c before now bytes was f took stands k wrote =
+    record {
+      output = [];
+      tally = [];
+      contents = wrote ∙ sym (after_write-none 2 (after_write 1 [] before));
+      ends = λ limit below sound.
+          (append-nil (live_output_of c bytes) ∙ sym (k.none_live bytes stands), refl, k.shows bytes stands);
+    }
+
+-- the tally was told, or a part of it
+pub tell-closed : (c : Command) (done : List ℕ → Type 0) (cut noted : Bool) (before now : Contents) (status : Status)
+    (tells : List ℕ → Type 0) → status ≡ at_end cut noted → (t : JobTold c done tells) →
+    now ≡ after_write 2 t.given before → Closed c done cut noted before now status
+tell-closed c done cut noted before now status tells same t told =
+    record { tally = t.given; contents = told; ends = inl (same, t.tally) }
+
+pub tell-refused : (c : Command) (done : List ℕ → Type 0) (cut noted : Bool) (before now : Contents)
+    (tells : List ℕ → Type 0) → (h : JobTellHalted c done tells) → now ≡ after_write 2 h.given before →
+    Closed c done cut noted before now (Stopped Refused)
+tell-refused c done cut noted before now tells h told =
+    record { tally = h.given; contents = told; ends = inr (refl, h.part) }
 
 pub cut-at : (d c : Command) (cut : Bool) (bytes : List ℕ) → d ≡ c → cut ≡ not (is_whole d bytes) →
     cut ≡ not (is_whole c bytes)
@@ -338,41 +420,16 @@ wrote-part c bytes given part =
     }
 
 -- the end was refused
-pub end-halted : (c : Command) (before now : Contents) (bytes : List ℕ) (was : List ℕ → Type 0)
-    (took : List ℕ → Type 0) →
-    was bytes → (h : JobEndHalted c was took) → now ≡ after_write 1 h.given before →
+pub end-halted : (c : Command) (before now : Contents) (bytes : List ℕ) (took : List ℕ → Type 0) →
+    (h : JobEndHaltedAt c bytes took) → now ≡ after_write 1 h.given before →
     RanEnd c bytes before now (Stopped Refused)
-end-halted c before now bytes was took stands h wrote =
+end-halted c before now bytes took h wrote =
     record {
       output = h.given;
       tally = [];
       contents = wrote ∙ sym (after_write-none 2 (after_write 1 h.given before));
-      ends = λ limit below sound. wrote-part c bytes h.given (h.part bytes stands);
+      ends = λ limit below sound. wrote-part c bytes h.given h.part;
     }
-
--- the tally was refused
-pub tell-halted : (c d : Command) (before mid now : Contents) (bytes : List ℕ) (was done : List ℕ → Type 0)
-    (noted : Bool) (took tells : List ℕ → Type 0) →
-    d ≡ c → was bytes → (e : JobEnded c was done noted took) → mid ≡ after_write 1 e.given before →
-    (h : JobTellHalted d done tells) → now ≡ after_write 2 h.given mid →
-    RanEnd c bytes before now (Stopped Refused)
-tell-halted c d before mid now bytes was done noted took tells same_command stands e wrote h told =
-    record {
-      output = e.given;
-      tally = h.given;
-      contents = told ∙ ap (after_write 2 h.given) wrote;
-      ends = λ limit below sound. record {
-        front = ([], e.beyond bytes stands ∙ sym (append-nil (live_output_of c bytes ++ e.given)));
-        at_least = known-front c bytes e.given;
-        tally_front = part-front _ _ (tally_part same_command (h.part bytes (e.stands bytes stands)));
-        behind = inr (sym (e.beyond bytes stands));
-        unfinished = λ all told_all. part-differs _ _
-            (tally_part same_command (h.part bytes (e.stands bytes stands))) told_all;
-      };
-    }
-  where
-    tally_part : d ≡ c → IsPart h.given (tally_of d bytes) → IsPart h.given (tally_of c bytes)
-    tally_part same p = subst (λ (x : Command). IsPart h.given (tally_of x bytes)) same p
 
 -- a piece was refused
 pub ran-halted : (c : Command) (limit count : ℕ) (before old now : Contents) (bytes piece given : List ℕ) →
@@ -405,12 +462,12 @@ ran-halted c limit count before old now bytes piece given size within few s wrot
     whole = part-within _ _ _ part (command-closes c (bytes ++ piece))
 
 -- what a job says, at the command that it began with
-pub fed-at : (d c : Command) (was now : List ℕ → Type 0) (piece : List ℕ) (fault other : Option Fault)
+pub fed-at : (d c : Command) (was now stops : List ℕ → Type 0) (piece : List ℕ) (fault other : Option Fault)
     (took : List ℕ → Type 0) → d ≡ c → fault ≡ other →
-    JobFed d was now piece fault took → JobFed c was now piece other took
-fed-at d c was now piece fault other took same told f =
-    subst (λ (x : Option Fault). JobFed c was now piece x took) told
-    (subst (λ (x : Command). JobFed x was now piece fault took) same f)
+    JobFed d was now stops piece fault took → JobFed c was now stops piece other took
+fed-at d c was now stops piece fault other took same told f =
+    subst (λ (x : Option Fault). JobFed c was now stops piece x took) told
+    (subst (λ (x : Command). JobFed x was now stops piece fault took) same f)
 
 pub halted-at : (d c : Command) (was : List ℕ → Type 0) (piece : List ℕ) (took : List ℕ → Type 0) → d ≡ c →
     JobHalted d was piece took → JobHalted c was piece took
@@ -427,19 +484,19 @@ piece-size filled rest count within = length-take-le count (filled ++ rest) (ome
 
 -- one more piece went through
 pub so_far-fed : {S : Type 0} (tells : Bool) (contents : S → Contents) (read_faults : S → ℕ) (c : Command)
-    (was goes : List ℕ → Type 0) (start old mid now : S) (bytes piece buffer : List ℕ) (taken count : ℕ) →
-    JobFed c was goes piece None (λ given. Wrote tells contents read_faults 1 mid given now) →
+    (was goes stops : List ℕ → Type 0) (start old mid now : S) (bytes piece buffer : List ℕ) (taken count : ℕ) →
+    JobFed c was goes stops piece None (λ given. Wrote tells contents read_faults 1 mid given now) →
     length bytes ≡ taken → length piece ≡ count → was bytes →
     (IsTrue tells → SoFar c (contents start) (contents old) bytes) →
     (IsTrue tells → Gives (contents old) (contents mid) 0 count buffer) → piece ≡ take count buffer →
     (all : List ℕ) × (length all ≡ taken + count) × goes all ×
     (IsTrue tells → SoFar c (contents start) (contents now) all)
-so_far-fed tells contents read_faults c was goes start old mid now bytes piece buffer taken count f size more stands
+so_far-fed tells contents read_faults c was goes stops start old mid now bytes piece buffer taken count f size more stands
     told gives cut = (
       bytes ++ piece,
       omega (arith, length-append bytes piece, size, more),
-      f.stands bytes stands,
+      f.stands refl bytes stands,
       λ t. so_far-more c (contents start) (contents mid) (contents now) bytes piece f.given
           (read-piece c (contents start) (contents old) (contents mid) bytes buffer piece count (told t) (gives t) cut)
-          (f.took_it.contents_are t) (f.beyond bytes stands) (f.fault_is bytes stands),
+          (f.took_it.contents_are t) (f.beyond bytes stands) (f.kept bytes stands),
     )

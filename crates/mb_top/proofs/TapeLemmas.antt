@@ -14,7 +14,8 @@ use Rattle.mb_frames.proofs.MigratingLemmas.{after-split, fault-all, tape2-then}
 use Rattle.mb_words.specs.Command.{Migrating}
 use Rattle.mb_top.specs.Output.{in_tape, is_whole}
 use Rattle.mb_top.specs.declared.fault.Fault.{Fault}
-use Rattle.mb_top.specs.Job.{job_command, JobStands, JobDone, JobFed, JobHalted, JobEnded, JobTold}
+use Rattle.mb_top.specs.Job.{job_command, JobStands, JobStops, JobDone, JobFed, JobHalted, JobEnded, JobTold}
+use Rattle.mb_top.proofs.KeptLemmas.{kept-tape}
 use Rattle.mb_top.specs.declared.job.Job.{Job}
 use Rattle.mb_top.specs.declared.job.Job.TheVariants as job
 
@@ -28,15 +29,16 @@ behind tape bytes piece e = ap (λ (t : TapeState). after t piece) e ∙ sym (af
 
 fed-by : (tape now : TapeState) (piece : List ℕ) (fault : Option TapeFault) (took : List ℕ → Type 0) →
     now ≡ after tape piece → fault ≡ fault_in (ending_at (after tape piece)) → took (migrated_from tape piece) →
-    JobFed Migrating (Stands tape) (Stands now) piece (in_tape fault) took
+    JobFed Migrating (Stands tape) (Stands now) (Stands now) piece (in_tape fault) took
 fed-by tape now piece fault took state told given =
     record {
       given = migrated_from tape piece;
       took_it = given;
-      stands = λ bytes h. state ∙ behind tape bytes piece h;
+      stands = λ none bytes h. state ∙ behind tape bytes piece h;
+      may_stop = λ bytes h. state ∙ behind tape bytes piece h;
       beyond = λ bytes h.
           tape2-then bytes piece ∙ ap (λ (t : TapeState). tape2 bytes ++ migrated_from t piece) (sym h);
-      fault_is = λ bytes h. ap in_tape (fault_at bytes h);
+      kept = λ bytes h. kept-tape Migrating (bytes ++ piece) fault (in_tape fault) refl (ap in_tape (fault_at bytes h));
     }
   where
     fault_at : (bytes : List ℕ) → tape ≡ after fresh bytes → tapes.tape_fault (bytes ++ piece) ≡ fault
@@ -47,10 +49,10 @@ fed-by tape now piece fault took state told given =
 pub job-tape_fed : (j : Job) (tape now : TapeState) (piece : List ℕ) (told : Option TapeFault) (fault : Option Fault)
     (took : List ℕ → Type 0) → j ≡ job.Migrate tape → fault ≡ in_tape told → now ≡ after tape piece →
     told ≡ fault_in (ending_at (after tape piece)) → took (migrated_from tape piece) →
-    JobFed (job_command j) (JobStands j) (JobStands (job.Migrate now)) piece fault took
+    JobFed (job_command j) (JobStands j) (JobStands (job.Migrate now)) (JobStops (job.Migrate now)) piece fault took
 job-tape_fed j tape now piece told fault took e is state told_is given =
-    subst (λ (k : Job). JobFed (job_command k) (JobStands k) (Stands now) piece fault took) (sym e)
-    (subst (λ (x : Option Fault). JobFed Migrating (Stands tape) (Stands now) piece x took) (sym is)
+    subst (λ (k : Job). JobFed (job_command k) (JobStands k) (Stands now) (Stands now) piece fault took) (sym e)
+    (subst (λ (x : Option Fault). JobFed Migrating (Stands tape) (Stands now) (Stands now) piece x took) (sym is)
     (fed-by tape now piece told took state told_is given))
 
 pub job-tape_halted : (j : Job) (tape : TapeState) (piece : List ℕ) (took : List ℕ → Type 0) → j ≡ job.Migrate tape →
@@ -72,12 +74,13 @@ pub job-tape_ended : (j : Job) (tape : TapeState) (took : List ℕ → Type 0) �
     JobEnded (job_command j) (JobStands j) (JobDone j) false took
 job-tape_ended j tape took e none =
     subst (λ (k : Job). JobEnded (job_command k) (JobStands k) (JobDone k) false took) (sym e)
-    (record {
+    (λ bytes h. record {
       given = [];
       took_it = none;
-      stands = λ bytes h. tt;
-      beyond = λ bytes h. sym (append-nil (tape2 bytes));
-      notes = λ bytes h. tt;
+      stands = tt;
+      beyond = sym (append-nil (tape2 bytes));
+      can = tt;
+      notes = tt;
     })
 
 pub job-tape_cut : (j : Job) (tape : TapeState) (cut : Bool) (bytes : List ℕ) → j ≡ job.Migrate tape →

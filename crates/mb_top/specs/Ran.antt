@@ -4,6 +4,7 @@
 --   CommandRan c ..           the same, and a command that reads nothing read none
 --   RanEnd c bytes ..      the same at the end of an input of which what is known was written before
 --   RanWords words ..      the same for words, which may mean no command
+--   Closed, HasClosed      the tally was told at the end
 --   RanStop c bytes stop ..  the same where an input of which what is known was written is stopped
 --   HasStopped ..          how the stopping itself went
 --   Faulted quiet ..       a fault of reading or writing came exactly where the status tells of one, but for one of
@@ -16,12 +17,13 @@ use Rattle.mb_message.specs.Front.{IsFront}
 use Rattle.mb_words.specs.Command.{Command, Means}
 use Rattle.mb_message.specs.Front.{IsPart}
 use Rattle.mb_top.specs.Output.{live_output_of, output_of, stopped_output_of, may_want_memory, answers_notes, fault_of}
-use Rattle.mb_top.specs.Output.{reads_tape, reads_file, reads_from, writes_at_stop}
+use Rattle.mb_top.specs.Output.{tally_of}
+use Rattle.mb_top.specs.Output.{reads_tape, reads_file, reads_from, records, writes_at_stop}
 use Rattle.mb_top.specs.declared.fault.Fault.TheVariants as fault
 use Rattle.mb_top.specs.declared.status.Stop.{Stop}
 use Rattle.mb_top.specs.Answer.{EndsAs}
 use Rattle.mb_top.specs.declared.status.Status.{Status}
-use Rattle.mb_top.specs.declared.status.Status.TheVariants.{Done, Noted, Usage, Cut, NoMemory, Stopped}
+use Rattle.mb_top.specs.declared.status.Status.TheVariants.{Done, Noted, Usage, Cut, Stopped}
 use Rattle.mb_top.specs.declared.status.Stop.TheVariants.{ReadFault, Refused, Faulty, TooLong}
 
 -- standard input was read, standard output written, and a tally to standard error
@@ -73,6 +75,18 @@ pub record RanEnd (c : Command) (bytes : List ℕ) (before after : Contents) (st
   pub ends : (limit : ℕ) → length bytes < limit → fault_of c bytes ≡ None →
       EndsAs c limit bytes bytes (live_output_of c bytes ++ output) tally status
 
+-- an input that ended was told of: how many bytes crossed each spec, all of it or a part
+pub record Closed (c : Command) (done : List ℕ → Type 0) (cut noted : Bool) (before after : Contents) (status : Status)
+    : Type 0 where
+  pub tally : List ℕ
+  pub contents : after ≡ after_write 2 tally before
+  pub ends : ((status ≡ at_end cut noted) × ((bytes : List ℕ) → done bytes → tally ≡ tally_of c bytes))
+      ⊎ ((status ≡ Stopped Refused) × ((bytes : List ℕ) → done bytes → IsPart tally (tally_of c bytes)))
+
+abbrev pub HasClosed : (closing : Status) (writes writes_now : ℕ) → Status → Type 0
+HasClosed closing writes writes_now status =
+    ((status ≡ closing) × (writes_now ≡ writes)) ⊎ ((status ≡ Stopped Refused) × Rose writes writes_now)
+
 -- an input was stopped: what is owed then was written, or a part of what all of it gives
 pub record RanStop (c : Command) (bytes : List ℕ) (stop : Stop) (before after : Contents) (status : Status) : Type 0
   where
@@ -91,13 +105,15 @@ HasStopped c stop writes writes_now status =
 -- of those that read one, and a fault of a tape or of a file of those that read one
 abbrev pub MayAnswer : Command → Status → Type 0
 MayAnswer c Usage = ⊥
-MayAnswer c NoMemory = may_want_memory c ≡ true
 MayAnswer c Noted = answers_notes c ≡ true
 MayAnswer c Cut = reads_from c 0 ≡ true
 MayAnswer c (Stopped ReadFault) = reads_from c 0 ≡ true
 MayAnswer c (Stopped TooLong) = reads_from c 0 ≡ true
 MayAnswer c (Stopped (Faulty (fault.Tape f))) = reads_tape c ≡ true
 MayAnswer c (Stopped (Faulty (fault.File f))) = reads_file c ≡ true
+MayAnswer c (Stopped (Faulty fault.LongTrack)) = records c ≡ true
+MayAnswer c (Stopped (Faulty (fault.LongGap was now))) = records c ≡ true
+MayAnswer c (Stopped (Faulty fault.Memory)) = may_want_memory c ≡ true
 MayAnswer c _ = Unit {0}
 
 pub record MayAnswerWords (words : List (List ℕ)) (status : Status) : Type 0 where

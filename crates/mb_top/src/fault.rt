@@ -1,13 +1,19 @@
-//! What an input shows that no command goes on with.
+//! What keeps a command from going on with its input.
 
 use mb_frames::TapeFault;
 use mb_smf::SmfFault;
 
-/// A fault of what is read.
+/// What is wrong with what is read, or with what it would be written as.
 #[derive(Clone, Copy, Debug, PartialEq, Eq)]
 pub(crate) enum Fault {
-    /// Of a tape.
+    /// A tape has a fault.
     Tape(TapeFault),
-    /// Of a Standard MIDI File.
+    /// A Standard MIDI File has a fault.
     File(SmfFault),
+    /// The file's track would be too long.
+    LongTrack,
+    /// A mark comes too late behind the last event of the file: their moments in microseconds.
+    LongGap { was: u64, now: u64 },
+    /// There is no memory.
+    Memory,
 }

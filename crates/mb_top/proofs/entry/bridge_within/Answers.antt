@@ -13,7 +13,7 @@ use Rattle.mb_top.proofs.DistanceLemmas.{keeps_distances}
 use Rattle.mb_top.proofs.AnswerLemmas.{wants_memory, noted_alone, no_fault, tape_alone, file_alone, one-reads}
 use Rattle.mb_top.proofs.AnswerLemmas.{selftest-ends}
 use Rattle.mb_top.proofs.CarriedLemmas.{carried, carried-completes, carried-part, file-told, tape_fault-told, whole-tape}
-use Rattle.mb_top.proofs.CarriedLemmas.{writes-all}
+use Rattle.mb_top.proofs.CarriedLemmas.{shows-none, writes-all}
 use Rattle.mb_top.proofs.PlayLemmas.{whole-sound_file}
 use Rattle.mb_top.proofs.MigrationLemmas as tape
 use Rattle.mb_top.proofs.SoFarLemmas.{live_written, so_far-lacks, so_far-held, so_far-stays, so_far-ends, so_far-front}
@@ -130,12 +130,12 @@ returns-clause-meant g c = is_meant _ c.run-status.result _ c.code.ensures c.run
 pub returns-clause-reads_all : goal.returns-clause-reads_all
 returns-clause-reads_all g c = λ command s tells m reads unhindered short unwanted.
     ap read_all c.code.ensures
-    ∙ reads_all _ _ _ _ _ _ c.run-status.result command m c.run-status.ensures.may unwanted
+    ∙ reads_all _ _ _ _ _ _ c.run-status.result command m c.run-status.ensures.may
     (λ e. (read_faults _ _ _ _ _ _ c.run-status.result _ c.code.ensures c.say.ensures.reads c.run-status.ensures.faults).0
     (c.code.ensures ∙ ap code_of e))
     (λ e. write_fault _ _ _ _ _ _ c.run-status.result _ c.code.ensures c.say.ensures.writes c.run-status.ensures.faults
     (c.code.ensures ∙ ap code_of e))
-    unhindered.reading unhindered.writing short (λ input f front. no_fault command s input f reads)
+    unhindered.reading unhindered.writing short (λ input f front. no_fault command s input f reads unwanted)
     (c.run-status.ensures.ran tells)
 
 pub returns-clause-complete : goal.returns-clause-complete
@@ -217,12 +217,13 @@ pub returns-clause-migrates : goal.returns-clause-migrates
 returns-clause-migrates g c = λ tells m unhindered short is_whole.
     carried-completes _ _ _ _ _ _ _ Migrating (writes-all Migrating refl) m
     (ap read_all c.code.ensures
-    ∙ reads_all _ _ _ _ _ _ c.run-status.result Migrating m c.run-status.ensures.may refl
+    ∙ reads_all _ _ _ _ _ _ c.run-status.result Migrating m c.run-status.ensures.may
     (λ e. (read_faults _ _ _ _ _ _ c.run-status.result _ c.code.ensures c.say.ensures.reads c.run-status.ensures.faults).0
     (c.code.ensures ∙ ap code_of e))
     (λ e. write_fault _ _ _ _ _ _ c.run-status.result _ c.code.ensures c.say.ensures.writes c.run-status.ensures.faults
     (c.code.ensures ∙ ap code_of e))
-    unhindered.reading unhindered.writing short (λ input f front. tape.whole-sound_tape _ input f is_whole front)
+    unhindered.reading unhindered.writing short (λ input f front. shows-none Migrating input (writes-all Migrating refl)
+    (λ g. tape.whole-sound_tape _ input g is_whole front) f)
     (c.run-status.ensures.ran tells))
     is_whole (returns-clause-contents g c tells)
 
@@ -230,12 +231,13 @@ pub returns-clause-plays : goal.returns-clause-plays
 returns-clause-plays g c = λ tells m unhindered short ended sound.
     carried-completes _ _ _ _ _ _ _ PlayingFile (writes-all PlayingFile refl) m
     (ap read_all c.code.ensures
-    ∙ reads_all _ _ _ _ _ _ c.run-status.result PlayingFile m c.run-status.ensures.may refl
+    ∙ reads_all _ _ _ _ _ _ c.run-status.result PlayingFile m c.run-status.ensures.may
     (λ e. (read_faults _ _ _ _ _ _ c.run-status.result _ c.code.ensures c.say.ensures.reads c.run-status.ensures.faults).0
     (c.code.ensures ∙ ap code_of e))
     (λ e. write_fault _ _ _ _ _ _ c.run-status.result _ c.code.ensures c.say.ensures.writes c.run-status.ensures.faults
     (c.code.ensures ∙ ap code_of e))
-    unhindered.reading unhindered.writing short (λ input f front. whole-sound_file _ input f sound front)
+    unhindered.reading unhindered.writing short (λ input f front. shows-none PlayingFile input (writes-all PlayingFile refl)
+    (λ g. whole-sound_file _ input g sound front) f)
     (c.run-status.ensures.ran tells))
     ended (returns-clause-contents g c tells)
 
@@ -243,12 +245,13 @@ pub returns-clause-guards : goal.returns-clause-guards
 returns-clause-guards g c = λ s tells m unhindered short is_whole.
     carried-completes _ _ _ _ _ _ _ (GuardingTape s) (writes-all (GuardingTape s) refl) m
     (ap read_all c.code.ensures
-    ∙ reads_all _ _ _ _ _ _ c.run-status.result (GuardingTape s) m c.run-status.ensures.may refl
+    ∙ reads_all _ _ _ _ _ _ c.run-status.result (GuardingTape s) m c.run-status.ensures.may
     (λ e. (read_faults _ _ _ _ _ _ c.run-status.result _ c.code.ensures c.say.ensures.reads c.run-status.ensures.faults).0
     (c.code.ensures ∙ ap code_of e))
     (λ e. write_fault _ _ _ _ _ _ c.run-status.result _ c.code.ensures c.say.ensures.writes c.run-status.ensures.faults
     (c.code.ensures ∙ ap code_of e))
-    unhindered.reading unhindered.writing short (λ input f front. tape.whole-sound_tape _ input f (whole-tape s _ is_whole) front)
+    unhindered.reading unhindered.writing short (λ input f front. shows-none (GuardingTape s) input (writes-all (GuardingTape s) refl)
+    (λ g. tape.whole-sound_tape _ input g (whole-tape s _ is_whole) front) f)
     (c.run-status.ensures.ran tells))
     is_whole (returns-clause-contents g c tells)
 

@@ -1,0 +1,190 @@
+-- A tape that is recorded, as a job says it.
+use Rattle.std.proofs.Common.{◌≡◌, ℕ, ◌≤◌, ◌^◌, Bool, not, false, List, [], ◌∷◌, ◌++◌, length, refl, sym, ◌∙◌}
+use Rattle.std.proofs.Common.{ap, subst}
+use Rattle.std.specs.Prelude.{Option, None, Some}
+use Rattle.mb_message.specs.Front.{IsFront, IsPart}
+use Rattle.mb_stream.specs.Puts.{Put}
+use Rattle.mb_smf.specs.declared.writer.SmfFull.{SmfFull}
+use Rattle.mb_smf.specs.declared.writer.SmfFull.TheVariants as full
+use Rattle.mb_frames.specs.declared.tape.TapeFault.{TapeFault}
+use Rattle.mb_carrier.specs.declared.spec.Spec.{Spec}
+use Rattle.mb_carrier.proofs.Fronts.{front-then}
+use Rattle.mb_track.specs.Track.{track_end, track_marks, track_marks_so_far, track_whole}
+use Rattle.mb_tapes.specs.Recorded.{CanBeRecorded, FirstLeftOut, recorded_file}
+use Rattle.mb_tapes.specs.Recording.{RecordedOn, RecordingStands, recording_spec}
+use Rattle.mb_tapes.specs.declared.recording.Recording.{Recording}
+use Rattle.mb_words.specs.Command.{RecordingTape}
+use Rattle.mb_top.specs.Output.{Shows, in_tape, is_whole, output_of}
+use Rattle.mb_top.specs.Job.{job_command, JobStands, JobStops, JobDone, JobFed, JobHalted, JobEnded, JobEndedAs}
+use Rattle.mb_top.specs.Job.{JobEndHalted, JobStopped, JobTold, KeptBy, PieceRecorded, RecordEnded, RecordStands}
+use Rattle.mb_top.specs.Job.{full_fault}
+use Rattle.mb_top.specs.declared.ending.Ending.{Ending}
+use Rattle.mb_top.specs.declared.ending.Ending.TheVariants as ending
+use Rattle.mb_top.specs.declared.fault.Fault.{Fault}
+use Rattle.mb_top.proofs.KeptLemmas.{kept-tape}
+use Rattle.mb_top.specs.declared.job.Job.{Job}
+use Rattle.mb_top.specs.declared.job.Job.TheVariants as job
+
+-- a mark that is left out so far is left out of all
+pub left_out-later : (marks more : List Put) (why : SmfFull) → FirstLeftOut marks why →
+    FirstLeftOut (marks ++ more) why
+left_out-later marks more why l =
+    record {
+      before = l.before;
+      moment = l.moment;
+      mark = l.mark;
+      front = front-then _ marks _ l.front (more, refl);
+      can = l.can;
+      why = l.why;
+    }
+
+shows-full : (s : Spec) (tape : List ℕ) (why : SmfFull) → FirstLeftOut (track_marks s 0 tape) why →
+    Shows (RecordingTape s) tape (full_fault why)
+shows-full s tape (full.Gap was now) l = l
+shows-full s tape full.Track l = l
+shows-full s tape (full.Memory memory) l = tt
+
+record-by : (s : Spec) (r : Recording) (bytes : List ℕ) (told : Option Recording) → told ≡ Some r →
+    RecordStands s told bytes → RecordStands s (Some r) bytes
+record-by s r bytes told e h = subst (λ (x : Option Recording). RecordStands s x bytes) e h
+
+pub piece-recorded : (s : Spec) (old : Option Recording) (r now : Recording) (bytes piece : List ℕ)
+    (told : Option TapeFault) (f : Option Fault) → old ≡ Some r → RecordStands s old bytes → f ≡ in_tape told →
+    recording_spec now ≡ recording_spec r → RecordedOn (RecordingStands r) (RecordingStands now) piece told →
+    PieceRecorded s (RecordStands s (Some now)) (bytes ++ piece) f
+piece-recorded s old r now bytes piece None f e h is same on =
+    let stands = record-by s r bytes old e h in
+    subst (PieceRecorded s (RecordStands s (Some now)) (bytes ++ piece)) (sym is)
+    ((same ∙ stands.0, on.stands bytes stands.1), ap in_tape (on.fault_is bytes stands.1))
+piece-recorded s old r now bytes piece (Some g) f e h is same on =
+    let stands = record-by s r bytes old e h in
+    subst (PieceRecorded s (RecordStands s (Some now)) (bytes ++ piece)) (sym is)
+    (ap in_tape (on.fault_is bytes stands.1))
+
+pub piece-full : (s : Spec) (old : Option Recording) (r : Recording) (stands_now : List ℕ → Type 0)
+    (bytes piece : List ℕ) (why : SmfFull) (f : Fault) → old ≡ Some r → RecordStands s old bytes → f ≡ full_fault why →
+    ((all : List ℕ) → RecordingStands r all →
+    FirstLeftOut (track_marks_so_far (recording_spec r) 0 (all ++ piece)) why) →
+    PieceRecorded s stands_now (bytes ++ piece) (Some f)
+piece-full s old r stands_now bytes piece why f e h is left_out =
+    let stands = record-by s r bytes old e h in
+    let tape = bytes ++ piece in
+    subst (Shows (RecordingTape s) tape) (sym is)
+    (shows-full s tape why
+    (left_out-later (track_marks_so_far s 0 tape) (track_end s 0 tape) why
+    (subst (λ (x : Spec). FirstLeftOut (track_marks_so_far x 0 tape) why) (stands.0) (left_out bytes stands.1))))
+
+pub none-recorded : {A : Type 0} (s : Spec) (old : Option Recording) (bytes : List ℕ) → old ≡ None →
+    RecordStands s old bytes → A
+none-recorded s old bytes e h = absurd (subst (λ (x : Option Recording). RecordStands s x bytes) e h)
+
+pub recorded-quiet : (s : Spec) (r : Recording) (bytes : List ℕ) (took : List ℕ → Type 0) →
+    RecordStands s (Some r) bytes → took (recorded_file (recording_spec r) bytes) →
+    CanBeRecorded (recording_spec r) bytes → RecordEnded s bytes ending.Quiet took
+recorded-quiet s r bytes took h given can =
+    (subst (λ (x : Spec). took (recorded_file x bytes)) h.0 given, subst (λ (x : Spec). CanBeRecorded x bytes) h.0 can)
+
+pub recorded-kept : (s : Spec) (r : Recording) (bytes : List ℕ) (took : List ℕ → Type 0) (why : SmfFull) (f : Fault) →
+    RecordStands s (Some r) bytes → f ≡ full_fault why → took [] →
+    FirstLeftOut (track_marks (recording_spec r) 0 bytes) why → RecordEnded s bytes (ending.Kept f) took
+recorded-kept s r bytes took why f h is none left_out = (
+  none,
+  subst (Shows (RecordingTape s) bytes) (sym is)
+      (shows-full s bytes why (subst (λ (x : Spec). FirstLeftOut (track_marks x 0 bytes) why) h.0 left_out)),
+)
+
+-- a job that records
+
+pub record-at : (j : Job) (s : Spec) (r : Option Recording) (bytes : List ℕ) → j ≡ job.Record s r →
+    JobStands j bytes → RecordStands s r bytes
+record-at j s r bytes e h = subst (λ (k : Job). JobStands k bytes) e h
+
+pub job-record_given : (j : Job) (s : Spec) (r : Option Recording) (piece : List ℕ) → j ≡ job.Record s r →
+    ((bytes : List ℕ) × JobStands j bytes × (length (bytes ++ piece) ≤ 2 ^ 40)) →
+    (t : Spec) × (bytes : List ℕ) × RecordStands t r bytes × (length (bytes ++ piece) ≤ 2 ^ 40)
+job-record_given j s r piece e w = (s, w.0, record-at j s r w.0 e w.1, w.2)
+
+pub job-record_fed : (j : Job) (s : Spec) (r now : Option Recording) (piece : List ℕ) (f : Option Fault)
+    (took : List ℕ → Type 0) → j ≡ job.Record s r → took [] →
+    ((t : Spec) (bytes : List ℕ) → RecordStands t r bytes → PieceRecorded t (RecordStands t now) (bytes ++ piece) f) →
+    JobFed (job_command j) (JobStands j) (JobStands (job.Record s now)) (JobStops (job.Record s now)) piece f took
+job-record_fed j s r now piece f took e none recorded =
+    subst (λ (k : Job). JobFed (job_command k) (JobStands k) (JobStands (job.Record s now)) (JobStops
+    (job.Record s now)) piece f took) (sym e)
+    (record {
+      given = [];
+      took_it = none;
+      stands = λ unkept bytes h. stands_by f unkept bytes (recorded s bytes h);
+      may_stop = λ bytes h. tt;
+      beyond = λ bytes h. refl;
+      kept = λ bytes h. kept_by f bytes (recorded s bytes h);
+    })
+  where
+    stands_by : (g : Option Fault) → g ≡ None → (bytes : List ℕ) →
+        PieceRecorded s (RecordStands s now) (bytes ++ piece) g → RecordStands s now (bytes ++ piece)
+    stands_by None unkept bytes p = p.0
+    stands_by (Some g) unkept bytes p = cc
+
+    kept_by : (g : Option Fault) → (bytes : List ℕ) → PieceRecorded s (RecordStands s now) (bytes ++ piece) g →
+        KeptBy (RecordingTape s) (bytes ++ piece) g
+    kept_by None bytes p = p.1
+    kept_by (Some g) bytes p = p
+
+pub job-record_ended : (j : Job) (s : Spec) (r now : Option Recording) (told : Ending) (took : List ℕ → Type 0) →
+    j ≡ job.Record s r → ((t : Spec) (bytes : List ℕ) → RecordStands t r bytes → RecordEnded t bytes told took) →
+    took [] → JobEndedAs (job_command j) (JobStands j) (JobDone (job.Record s now)) told took
+job-record_ended j s r now told took e ended none =
+    subst (λ (k : Job). JobEndedAs (job_command k) (JobStands k) (JobDone (job.Record s now)) told took) (sym e)
+    (by told (λ bytes h. ended s bytes h))
+  where
+    by : (x : Ending) → ((bytes : List ℕ) → RecordStands s r bytes → RecordEnded s bytes x took) →
+        JobEndedAs (RecordingTape s) (RecordStands s r) (λ bytes. Unit {0}) x took
+    by ending.Quiet all = λ bytes h. record {
+      given = recorded_file s bytes;
+      took_it = (all bytes h).0;
+      stands = tt;
+      beyond = refl;
+      can = (all bytes h).1;
+      notes = tt;
+    }
+    by ending.Noted all = λ bytes h. absurd (all bytes h)
+    by (ending.Kept f) all = record {
+      took_none = none;
+      none_live = λ bytes h. refl;
+      shows = λ bytes h. (all bytes h).1;
+    }
+
+pub job-record_end_halted : (j : Job) (s : Spec) (r : Option Recording) (took : List ℕ → Type 0) → j ≡ job.Record s r →
+    ((t : Spec) (bytes : List ℕ) → RecordStands t r bytes →
+    (front : List ℕ) × IsPart front (recorded_file t bytes) × took front) →
+    JobEndHalted (job_command j) (JobStands j) took
+job-record_end_halted j s r took e halted =
+    subst (λ (k : Job). JobEndHalted (job_command k) (JobStands k) took) (sym e)
+    (λ bytes h. let f = halted s bytes h in record { given = f.0; took_it = f.2; part = f.1 })
+
+pub job-record_stopped : (j : Job) (s : Spec) (r : Option Recording) (took : List ℕ → Type 0) → j ≡ job.Record s r →
+    took [] → JobStopped (job_command j) (JobStops j) took
+job-record_stopped j s r took e none =
+    subst (λ (k : Job). JobStopped (job_command k) (JobStops k) took) (sym e)
+    (record { given = []; took_it = none; beyond = λ bytes h. refl })
+
+pub job-record_cut : (j : Job) (s : Spec) (r : Option Recording) (cut : Bool) (bytes : List ℕ) → j ≡ job.Record s r →
+    JobStands j bytes →
+    ((t : Spec) (all : List ℕ) → RecordStands t r all → cut ≡ not (track_whole t 0 all)) →
+    cut ≡ not (is_whole (job_command j) bytes)
+job-record_cut j s r cut bytes e h law =
+    law s bytes (record-at j s r bytes e h) ∙ ap (λ (k : Job). not (is_whole (job_command k) bytes)) (sym e)
+
+pub job-record_told : (j : Job) (s : Spec) (r : Option Recording) (took : List ℕ → Type 0) → j ≡ job.Record s r →
+    took [] → JobTold (job_command j) (JobDone j) took
+job-record_told j s r took e none =
+    subst (λ (k : Job). JobTold (job_command k) (JobDone k) took) (sym e)
+    (record { given = []; took_it = none; tally = λ bytes h. refl })
+
+pub partial-recorded : (s : Spec) (old : Option Recording) (r : Recording) (bytes : List ℕ) (cut : Bool) →
+    old ≡ Some r → RecordStands s old bytes →
+    ((all : List ℕ) → RecordingStands r all → cut ≡ not (track_whole (recording_spec r) 0 all)) →
+    cut ≡ not (track_whole s 0 bytes)
+partial-recorded s old r bytes cut e h law =
+    let stands = record-by s r bytes old e h in
+    law bytes stands.1 ∙ ap (λ (x : Spec). not (track_whole x 0 bytes)) stands.0
