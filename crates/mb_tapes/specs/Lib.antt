@@ -1,2 +1,4 @@
 pub mod Played
 pub mod Playing
+pub mod Recorded
+pub mod Recording
