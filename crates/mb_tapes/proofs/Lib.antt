@@ -1,2 +1,3 @@
 pub mod PlayedLaw
 pub mod PlayingLemmas
+pub mod RecordingLemmas

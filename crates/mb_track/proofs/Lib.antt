@@ -4,4 +4,5 @@ pub mod StandLemmas
 pub mod FrontLemmas
 pub mod RisingRecords
 pub mod EndLemmas
+pub mod GatheredTapes
 mod Examples
