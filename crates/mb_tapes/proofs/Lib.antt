@@ -1,3 +1,4 @@
 pub mod PlayedLaw
 pub mod PlayingLemmas
 pub mod RecordingLemmas
+pub mod PlayBackLaw

@@ -5,11 +5,14 @@
 --   recorded_file s tape       the file
 --   CanBeRecorded s tape       there is one
 --   FirstLeftOut marks full    the first mark that no file can have behind those before it, and why
-use Rattle.std.specs.Prelude.{ℕ, Err, List, [], ◌∷◌, ◌++◌}
+--   first_moment events        the moment of a file's first event, and 0 where it has none
+--   played_moment first m      when what has a moment is played again: a thousand microseconds for each millisecond, less
+--                              those of the first event
+use Rattle.std.specs.Prelude.{ℕ, ◌*◌, ◌-◌, ◌/◌, Err, List, [], ◌∷◌, ◌++◌}
 use Rattle.mb_message.specs.Front.{IsFront}
 use Rattle.mb_message.specs.Signs.{Sign}
 use Rattle.mb_stream.specs.Puts.{At, Put}
-use Rattle.mb_smf.specs.SmfWritten.{CanBeWritten, smf_written}
+use Rattle.mb_smf.specs.SmfWritten.{CanBeWritten, MomentEvent, smf_written}
 use Rattle.mb_smf.specs.TrackWriting.{FullBy}
 use Rattle.mb_smf.specs.declared.writer.SmfFull.{SmfFull}
 use Rattle.mb_carrier.specs.declared.spec.Spec.{Spec}
@@ -30,3 +33,10 @@ pub record FirstLeftOut (marks : List Put) (full : SmfFull) : Type 0 where
   pub front : IsFront (before ++ At moment mark ∷ []) marks
   pub can : CanBeWritten before
   pub why : FullBy before moment mark (Err full)
+
+abbrev pub first_moment : List MomentEvent → ℕ
+first_moment [] = 0
+first_moment (e ∷ es) = e.moment
+
+abbrev pub played_moment : (first moment : ℕ) → ℕ
+played_moment first moment = 1000 * (moment / 1000 - first / 1000)

@@ -111,7 +111,7 @@ right-piece last m q rises near some fits = record {
   rises = rises;
   near = omega (arith, near);
   track = omega arith;
-  one_track = cc;
+  one_track = λ form. refl;
   some = some;
   fits = omega (arith, fits);
 }
