@@ -11,13 +11,13 @@ use Rattle.mb_tapes.proofs.recording.Recording.feed.Goals as goal
 
 pub steps-init : goal.steps-init
 steps-init c = record {
-  feeding = feeding-start c.args.self.now c.args.piece.now c.requires.stands.0 c.requires.stands.1.0;
+  feeding = feeding-start c.args.self.now c.args.piece.now c.requires.stands.0 c.requires.stands.1;
 }
 
 pub put-requires-clause-follows : goal.put-requires-clause-follows
 put-requires-clause-follows c =
     feeding-follows c.args.self.now c.steps.self.track c.next.new.self c.steps.self.file c.args.piece.now
-    c.steps.rest.now c.next.new.input.now c.requires.stands.0 c.in-Ok-Some-Heard.ev c.requires.stands.1.0
+    c.steps.rest.now c.next.new.input.now c.requires.stands.0 c.in-Ok-Some-Heard.ev c.requires.stands.1
     c.steps.invariant.feeding
     (goes-by c.steps.self.track c.next.new.self c.steps.rest.now c.next.new.input.now _ _
     (ap step_signs (c.in-Ok-Some-Heard.is ∙ ap Ok (c.in-Ok-Some-Heard.field-0-is ∙ ap Some c.in-Ok-Some-Heard.field-0-0-is))) c.next.ensures.goes)
@@ -25,7 +25,7 @@ put-requires-clause-follows c =
 pub put-requires-clause-order : goal.put-requires-clause-order
 put-requires-clause-order c =
     feeding-order c.args.self.now c.steps.self.track c.next.new.self c.steps.self.file c.args.piece.now
-    c.steps.rest.now c.requires.stands.0 c.requires.stands.1.0 c.steps.invariant.feeding c.next.ensures.rises
+    c.steps.rest.now c.requires.stands.0 c.requires.stands.1 c.steps.invariant.feeding c.next.ensures.rises
 
 pub returns-in-Err-put-clause-full : goal.returns-in-Err-put-clause-full
 returns-in-Err-put-clause-full c = λ bytes st.
@@ -53,7 +53,7 @@ pub steps-preserved : goal.steps-preserved
 steps-preserved c = record {
   feeding =
       feeding-passed c.args.self.now c.steps.self.track c.next.new.self c.steps.self.file c.args.piece.now
-      c.steps.rest.now c.next.new.input.now c.requires.stands.0 c.requires.stands.1.0 c.steps.invariant.feeding
+      c.steps.rest.now c.next.new.input.now c.requires.stands.0 c.requires.stands.1 c.steps.invariant.feeding
       c.next.ensures.spec c.next.ensures.track c.next.ensures.end c.next.ensures.rises
       (goes-by c.steps.self.track c.next.new.self c.steps.rest.now c.next.new.input.now _ []
       (ap step_signs (c.in-Ok-Some-End.is ∙ ap Ok (c.in-Ok-Some-End.field-0-is ∙ ap Some c.in-Ok-Some-End.field-0-0-is))) c.next.ensures.goes);
@@ -63,7 +63,7 @@ pub steps-preserved-in-Ok-Some-Begin : goal.steps-preserved-in-Ok-Some-Begin
 steps-preserved-in-Ok-Some-Begin c = record {
   feeding =
       feeding-passed c.args.self.now c.steps.self.track c.next.new.self c.steps.self.file c.args.piece.now
-      c.steps.rest.now c.next.new.input.now c.requires.stands.0 c.requires.stands.1.0 c.steps.invariant.feeding
+      c.steps.rest.now c.next.new.input.now c.requires.stands.0 c.requires.stands.1 c.steps.invariant.feeding
       c.next.ensures.spec c.next.ensures.track c.next.ensures.end c.next.ensures.rises
       (goes-by c.steps.self.track c.next.new.self c.steps.rest.now c.next.new.input.now _ []
       (ap step_signs (c.in-Ok-Some-Begin.is ∙ ap Ok (c.in-Ok-Some-Begin.field-0-is ∙ ap Some c.in-Ok-Some-Begin.field-0-0-is))) c.next.ensures.goes);
