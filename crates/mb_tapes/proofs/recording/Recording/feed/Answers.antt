@@ -1,8 +1,6 @@
-use Rattle.std.proofs.Common.{[], ◌≡◌, ◌++◌, List, None, Option, Some, refl, sym, ap, ◌∙◌, subst}
+use Rattle.std.proofs.Common.{[], ◌≡◌, None, Some, sym, ap, ◌∙◌, subst}
 use Rattle.std.specs.Prelude.{Ok}
-use Rattle.mb_message.specs.Signs.{signs_of_event}
-use Rattle.mb_stream.specs.Puts.{puts_at}
-use Rattle.mb_track.specs.TrackReading.{step_signs, track_moment}
+use Rattle.mb_track.specs.TrackReading.{step_signs}
 use Rattle.mb_track.specs.declared.track.TrackReader.{TrackReader}
 use Rattle.mb_track.proofs.StandLemmas.{goes-by}
 use Rattle.mb_tapes.proofs.RecordingLemmas.{Feeding, feeding-end, feeding-follows, feeding-full, feeding-heard}

@@ -1,10 +1,9 @@
-use Rattle.std.proofs.Common.{◌≡◌, ℕ, List, [], sym, ap, ◌∙◌, subst, append-nil}
+use Rattle.std.proofs.Common.{[], sym, ap, ◌∙◌, subst, append-nil}
 use Rattle.std.proofs.lemmas.Result.{IfErr-weaker, on_ok_weaker}
 use Rattle.mb_message.specs.Signs.{signs_of_event}
-use Rattle.mb_stream.specs.Puts.{Put, puts_at}
+use Rattle.mb_stream.specs.Puts.{puts_at}
 use Rattle.mb_smf.specs.TrackWriting.{TrackWrites}
-use Rattle.mb_track.specs.TrackReading.{TrackTold, event_signs, track_moment, track_of, track_spec}
-use Rattle.mb_track.specs.Track.{track_end}
+use Rattle.mb_track.specs.TrackReading.{event_signs, track_moment}
 use Rattle.mb_tapes.proofs.RecordingLemmas.{end-follows, end-full, end-writes}
 use Rattle.mb_tapes.proofs.recording.Recording.put_end.Goals as goal
 
