@@ -37,6 +37,8 @@ mod outside;
 #[cfg(test)]
 mod print;
 #[cfg(test)]
+mod recording;
+#[cfg(test)]
 mod rig;
 #[cfg(test)]
 mod smf;

@@ -171,7 +171,7 @@ fn put_all(writer: &mut SmfWriter, marks: &[(u64, Sample)]) -> Result<(), SmfFul
 }
 
 /// What stands before the track's length.
-const HEADS: &[u8] = b"MThd\0\0\0\x06\0\0\0\x01\x03\xe8MTrk";
+pub(crate) const HEADS: &[u8] = b"MThd\0\0\0\x06\0\0\0\x01\x03\xe8MTrk";
 
 /// Whether these marks make the file of this length and track.
 fn writes(alloc: Global, marks: &[(u64, Sample)], track: &[u8]) -> bool {

@@ -12,7 +12,7 @@ use Rattle.mb_stream.specs.Puts.{Put, At, Flush, signs_in}
 use Rattle.mb_stream.specs.Reading.{signs_of}
 use Rattle.mb_stream.specs.Spelling.{data_of, full_bytes, spelled}
 use Rattle.mb_stream.proofs.ByteKinds.{DataKind, kind}
-use Rattle.mb_stream.proofs.Late.{Closed, denotation-late}
+use Rattle.mb_stream.proofs.Late.{Closed, denotation-late, late}
 use Rattle.mb_stream.proofs.Machine.{Rest, read}
 use Rattle.mb_stream.proofs.SpelledMarks.{full_bytes-spelled, read-spelled}
 use Rattle.mb_stream.proofs.Suits.{Suit, Suit-suited}
@@ -20,7 +20,7 @@ use Rattle.mb_din.specs.Recording.{din_reading}
 use Rattle.mb_din.proofs.DinMarks.{din-signs}
 use Rattle.mb_smf.specs.Smf.{bare_bytes, given_at}
 use Rattle.mb_smf.specs.SmfEvents.{ChannelEvent, EscapeEvent, event_given}
-use Rattle.mb_smf.specs.SmfWritten.{CanBeWritten, MomentEvent, all_given, broken_event, data_behind}
+use Rattle.mb_smf.specs.SmfWritten.{CanBeWritten, MomentEvent, all_given, broken_event, data_behind, event_by}
 use Rattle.mb_smf.specs.SmfWritten.{given_since, recorded, recorded_from, short_event, whole_event, written_given}
 
 -- the marks of events, in the order of the events
@@ -31,7 +31,7 @@ whole_signs ds = OpenSign ∷ (map ByteSign ds ++ EndSign ∷ [])
 abbrev broken_signs : List ℕ → List Sign
 broken_signs ds = OpenSign ∷ (map ByteSign ds ++ AbortSign ∷ [])
 
-abbrev moved_at : List ℕ → Sign → List Sign
+abbrev pub moved_at : List ℕ → Sign → List Sign
 moved_at ds (ShortSign s a b) = ShortSign s a b ∷ []
 moved_at ds (RtSign b) = RtSign b ∷ []
 moved_at ds OpenSign = []
@@ -39,11 +39,11 @@ moved_at ds (ByteSign b) = []
 moved_at ds EndSign = whole_signs ds
 moved_at ds AbortSign = broken_signs ds
 
-abbrev moved_end : List ℕ → Bool → List Sign
+abbrev pub moved_end : List ℕ → Bool → List Sign
 moved_end ds false = []
 moved_end ds true = broken_signs ds
 
-abbrev moved_from : List ℕ → Bool → List Put → List Sign
+abbrev pub moved_from : List ℕ → Bool → List Put → List Sign
 moved_from ds o [] = moved_end ds o
 moved_from ds o (At m s ∷ puts) = moved_at ds s ++ moved_from (data_behind ds s) (stays_open o (s ∷ [])) puts
 moved_from ds o (Flush ∷ puts) = moved_from ds o puts
@@ -225,11 +225,32 @@ suit-moved (At m AbortSign ∷ puts) ds true all su =
     (tt, suit-ended ds AbortSign (moved_from [] false puts) all (tt, suit-moved puts [] false tt su.1))
 
 -- what is read of marks with no status left out
+pub full-signs : (ms : List Sign) → Suit false ms → signs_of (din_reading (full_bytes ms)) ≡ late Closed ms
+full-signs ms su =
+    din-signs (full_bytes ms)
+    ∙ (ap (read Rest) (full_bytes-spelled None ms) ∙ read-spelled false None Rest Closed ms tt su)
+
 full-means : (ms : List Sign) → Suit false ms → denotation (signs_of (din_reading (full_bytes ms))) ≡ denotation ms
-full-means ms su =
-    ap denotation (din-signs (full_bytes ms)
-    ∙ (ap (read Rest) (full_bytes-spelled None ms) ∙ read-spelled false None Rest Closed ms tt su))
-    ∙ denotation-late ms su
+full-means ms su = ap denotation (full-signs ms su) ∙ denotation-late ms su
+
+pub moved-suits : (puts : List Put) → CanBeWritten puts → Suit false (moved_from [] false puts)
+moved-suits puts c = suit-moved puts [] false tt (Suit-suited (signs_in puts) c.suits c.valid)
+
+-- what the event of a mark gives is the mark's bytes in the order of the events, at one moment
+pub mark-gives : (first m : ℕ) (ds : List ℕ) (s : Sign) → flat_map (given_since first) (event_by ds m s) ≡
+    given_at (1000 * (m / 1000 - first / 1000)) (full_bytes (moved_at ds s))
+mark-gives first m ds (ShortSign s a b) =
+    append-nil (given_since first (record { moment = m; event = short_event s a b }))
+    ∙ ap (given_at (1000 * (m / 1000 - first / 1000))) (short-gives s a b)
+mark-gives first m ds (RtSign b) = refl
+mark-gives first m ds OpenSign = refl
+mark-gives first m ds (ByteSign b) = refl
+mark-gives first m ds EndSign =
+    append-nil (given_since first (record { moment = m; event = whole_event ds }))
+    ∙ ap (given_at (1000 * (m / 1000 - first / 1000))) (whole-gives ds)
+mark-gives first m ds AbortSign =
+    append-nil (given_since first (record { moment = m; event = broken_event ds }))
+    ∙ ap (given_at (1000 * (m / 1000 - first / 1000))) (broken-gives ds)
 
 pub written-means : (puts : List Put) → CanBeWritten puts →
     denotation (signs_of (din_reading (bare_bytes (written_given puts)))) ≡ denotation (signs_in puts)
@@ -239,4 +260,4 @@ written-means puts c =
     all-bytes (recorded puts) (full_bytes (moved_from [] false puts))
     (λ first. moved-bytes first puts [] false 0) in
     ap (λ z. denotation (signs_of (din_reading z))) bytes
-    ∙ (full-means (moved_from [] false puts) (suit-moved puts [] false tt su) ∙ moved-means puts su)
+    ∙ (full-means (moved_from [] false puts) (moved-suits puts c) ∙ moved-means puts su)

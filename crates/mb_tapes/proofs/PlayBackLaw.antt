@@ -1,5 +1,5 @@
 -- What is recorded and played again: the same meaning, and each message at the milliseconds since the first event.
-use Rattle.std.proofs.Common.{◌≡◌, ℕ, ◌≤◌, ◌<◌, ◌+◌, ◌*◌, ◌-◌, ◌/◌, ◌^◌, Bool, true, false, List, [], ◌∷◌}
+use Rattle.std.proofs.Common.{◌≡◌, ℕ, ◌≤◌, ◌<◌, ◌^◌, Bool, true, false, List, [], ◌∷◌}
 use Rattle.std.proofs.Common.{◌++◌, map, flat_map, refl, sym, ◌∙◌, ap, ap₂, subst, arith, append_assoc, append-nil}
 use Rattle.std.specs.Prelude.{◌&&◌, nat_le, nat_lt}
 use Rattle.std.proofs.lemmas.Bool.Decides.{nat_tests}
@@ -116,8 +116,13 @@ messages-late : (p : Place) (ms : List Sign) → messages (late p ms) ≡ messag
 messages-late p [] = messages-none p
 messages-late p (m ∷ ms) =
     let q = place_after p m in
-    omega (arith, messages-append (late_at p m) (late q ms), messages-at p m, messages-late q ms,
-    messages-append (m ∷ []) ms)
+    omega (
+      arith,
+      messages-append (late_at p m) (late q ms),
+      messages-at p m,
+      messages-late q ms,
+      messages-append (m ∷ []) ms,
+    )
 
 messages-end : (r : Reader) → messages (ends r) ≡ 0
 messages-end Rest = refl
@@ -150,9 +155,14 @@ new-messages xs ms su =
     let news = new_marks Din (full_bytes xs) (full_bytes ms) in
     let all : messages (marks_so_far Din (full_bytes xs) ++ news) ≡ messages (xs ++ ms)
     = ap messages (sym (marks-more Din (full_bytes xs) (full_bytes ms)))
-      ∙ (ap (λ bs. messages (marks_so_far Din bs)) (sym (flat_map-append spelled xs ms)) ∙ full-messages (xs ++ ms) su) in
-    omega (arith, all, messages-append (marks_so_far Din (full_bytes xs)) news, messages-append xs ms,
-    full-messages xs (suit-front false xs ms su))
+    ∙ (ap (λ bs. messages (marks_so_far Din bs)) (sym (flat_map-append spelled xs ms)) ∙ full-messages (xs ++ ms) su) in
+    omega (
+      arith,
+      all,
+      messages-append (marks_so_far Din (full_bytes xs)) news,
+      messages-append xs ms,
+      full-messages xs (suit-front false xs ms su),
+    )
 
 -- their moments
 

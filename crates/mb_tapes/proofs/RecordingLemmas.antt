@@ -15,7 +15,6 @@ use Rattle.mb_frames.specs.declared.tape.TapeFault.{TapeFault}
 use Rattle.mb_smf.specs.TrackWriting.{FullBy, TrackWrites, TrackWriting, is_full}
 use Rattle.mb_smf.specs.declared.writer.SmfFull.{SmfFull}
 use Rattle.mb_carrier.specs.Port.{ReaderStands}
-use Rattle.mb_carrier.specs.declared.spec.Spec.{Spec}
 use Rattle.mb_carrier.proofs.PutLemmas.{puts_at-append}
 use Rattle.mb_carrier.proofs.ReadingLemmas.{puts-front}
 use Rattle.mb_track.specs.Track.{track_end, track_marks, track_marks_so_far}
@@ -140,9 +139,9 @@ run-put-refused was mid m b bytes rest others full is r refused puts h =
     let one = At m (ByteSign b) ∷ [] in
     let all : puts ++ run_puts m bytes ≡ (before ++ one) ++ run_puts m others
     = ap (λ ps. puts ++ ps)
-      (ap (run_puts m) (r.split ∙ ap (λ xs. r.taken ++ xs) is) ∙ run-append m r.taken (b ∷ others))
-      ∙ (sym (append_assoc puts (run_puts m r.taken) (run_puts m (b ∷ others)))
-      ∙ sym (append_assoc before one (run_puts m others))) in
+    (ap (run_puts m) (r.split ∙ ap (λ xs. r.taken ++ xs) is) ∙ run-append m r.taken (b ∷ others))
+    ∙ (sym (append_assoc puts (run_puts m r.taken) (run_puts m (b ∷ others)))
+    ∙ sym (append_assoc before one (run_puts m others))) in
     left-out-of (before ++ one) (puts ++ run_puts m bytes) full (run_puts m others, all)
     (refused before (r.writes puts h))
 
@@ -220,7 +219,7 @@ pub feeding-heard : (was : Recording) (track now : TrackReader) (file file_now :
     track_of now ≡ track_of track → track_offset now + length left ≤ track_offset track + length rest →
     TrackGoes track now rest left (signs_of_event e) →
     ((puts : List Put) → TrackWrites file puts →
-        TrackWrites file_now (puts ++ puts_at (track_moment now) (signs_of_event e))) → is_full file_now ≡ false →
+    TrackWrites file_now (puts ++ puts_at (track_moment now) (signs_of_event e))) → is_full file_now ≡ false →
     file_now.moment ≤ track_moment now → Feeding was now file_now piece left
 feeding-heard was track now file file_now piece rest left e f spec of end goes writes short order =
     let more = puts_at (track_moment now) (signs_of_event e) in
@@ -298,7 +297,7 @@ pub feeding-full : (was : Recording) (track now : TrackReader) (file : TrackWrit
     (full : SmfFull) → Feeding was track file piece rest → track_spec now ≡ track_spec track →
     track_of now ≡ track_of track → TrackGoes track now rest left (signs_of_event e) →
     ((puts : List Put) → TrackWrites file puts →
-        FirstLeftOut (puts ++ puts_at (track_moment now) (signs_of_event e)) full) →
+    FirstLeftOut (puts ++ puts_at (track_moment now) (signs_of_event e)) full) →
     (bytes : List ℕ) → RecordingStands was bytes →
     FirstLeftOut (track_marks_so_far (recording_spec was) 0 (bytes ++ piece)) full
 feeding-full was track now file piece rest left e full f spec of goes refused bytes st =
@@ -308,12 +307,12 @@ feeding-full was track now file piece rest left e full f spec of goes refused by
     let gone = goes (bytes ++ t.taken) t.told t.stands in
     let whole : ((bytes ++ t.taken) ++ gone.bytes) ++ left ≡ bytes ++ piece
     = append_assoc (bytes ++ t.taken) gone.bytes left ∙ (ap (λ xs. (bytes ++ t.taken) ++ xs) (sym gone.front)
-      ∙ (append_assoc bytes t.taken rest ∙ ap (λ xs. bytes ++ xs) (sym t.split))) in
+    ∙ (append_assoc bytes t.taken rest ∙ ap (λ xs. bytes ++ xs) (sym t.split))) in
     let marks : track_marks_so_far (track_spec now) now.track (((bytes ++ t.taken) ++ gone.bytes) ++ left) ≡
-        track_marks_so_far s 0 (bytes ++ piece)
+    track_marks_so_far s 0 (bytes ++ piece)
     = ap (track_marks_so_far (track_spec now) now.track) whole
-      ∙ (ap (λ z. track_marks_so_far z now.track (bytes ++ piece)) (spec ∙ f.spec)
-      ∙ ap (λ n. track_marks_so_far s n (bytes ++ piece)) (of ∙ (f.of_track ∙ st.of_track))) in
+    ∙ (ap (λ z. track_marks_so_far z now.track (bytes ++ piece)) (spec ∙ f.spec)
+    ∙ ap (λ n. track_marks_so_far s n (bytes ++ piece)) (of ∙ (f.of_track ∙ st.of_track))) in
     left-out-of (t.told ++ more) (track_marks_so_far s 0 (bytes ++ piece)) full
     (subst (IsFront (t.told ++ more)) marks
     (front-of now ((bytes ++ t.taken) ++ gone.bytes) left (t.told ++ more) gone.stands)) (refused t.told t.writes)
@@ -345,8 +344,8 @@ feeding-over was track now file piece rest left fault f spec of end rises over b
     = append_assoc bytes t.taken rest ∙ ap (λ xs. bytes ++ xs) (sym t.split) in
     let marks : t.told ≡ track_marks_so_far s 0 (bytes ++ piece)
     = o.1 ∙ (ap (track_marks_so_far (track_spec track) (track_of track)) whole
-      ∙ (ap (λ z. track_marks_so_far z (track_of track) (bytes ++ piece)) f.spec
-      ∙ ap (λ n. track_marks_so_far s n (bytes ++ piece)) (f.of_track ∙ st.of_track))) in
+    ∙ (ap (λ z. track_marks_so_far z (track_of track) (bytes ++ piece)) f.spec
+    ∙ ap (λ n. track_marks_so_far s n (bytes ++ piece)) (f.of_track ∙ st.of_track))) in
     let now_marks : t.told ≡ track_marks_so_far (track_spec now) 0 (bytes ++ piece)
     = marks ∙ ap (λ z. track_marks_so_far z 0 (bytes ++ piece)) (sym (spec ∙ f.spec)) in
     record {

@@ -39,7 +39,7 @@ pub fn recorded_files_play_back()
     ensures moments { (s : Spec) (tape : List ℕ) → CanBeRecorded s tape →
         message_moments (track_marks Din 0 (played (recorded_file s tape))) ≡
         map (played_moment (first_moment (recorded (track_marks s 0 tape))))
-            (message_moments (track_marks s 0 tape)) }
+        (message_moments (track_marks s 0 tape)) }
     ensures fault { (s : Spec) (tape : List ℕ) → CanBeRecorded s tape →
         (smf (recorded_file s tape)).fault ≡ None }
     ensures ended { (s : Spec) (tape : List ℕ) → CanBeRecorded s tape → smf_ended (recorded_file s tape) ≡ true }

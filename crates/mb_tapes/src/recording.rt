@@ -137,7 +137,7 @@ impl Recording {
 
     /// An event goes to the file, at the moment of the last record.
     fn put(&mut self, ev: Ev<'_>) -> Result<(), SmfFull>
-        requires follows { MayFollow self.old.file (puts_at (track_moment self.old.track) (signs_of_event ev.entry)) }
+        requires follows { MayFollow self.old.file (puts_at (track_moment self.old.track) (signs_of_event ev)) }
         requires order { self.old.file.moment ≤ track_moment self.old.track }
         requires short { is_full self.old.file ≡ false }
         ensures track { self.new.track ≡ self.old.track }

@@ -4,5 +4,6 @@ pub mod StandLemmas
 pub mod FrontLemmas
 pub mod RisingRecords
 pub mod EndLemmas
+pub mod GatheredTapes
 mod Examples
 pub mod GrowLemmas
