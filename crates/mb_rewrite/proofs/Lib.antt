@@ -1,0 +1,4 @@
+pub mod LineLemmas
+pub mod GuardLemmas
+pub mod EndLemmas
+pub mod FeedLemmas

@@ -1,0 +1,4 @@
+pub mod LineTape
+pub mod Line
+pub mod Guarded
+pub mod Guarding

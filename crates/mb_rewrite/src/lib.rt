@@ -1,0 +1,8 @@
+//! A tape of any port's recording, written again as a tape of a byte line: its messages, and behind them a Note Off for
+//! each note that still sounds (`specs/Guarded.antt`).
+#![tactic(auto)]
+
+mod guarding;
+mod line;
+
+pub use guarding::Guarding;
