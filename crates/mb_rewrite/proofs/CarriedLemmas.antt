@@ -15,23 +15,24 @@ use Rattle.mb_stream.proofs.PutsLemmas.{signs_in-append, signs_in-at}
 use Rattle.mb_stream.proofs.StandingLemmas.{Suited, Suited-append, Suited-from_suited, both, is_open-from, open_from}
 use Rattle.mb_stream.proofs.StandingLemmas.{suited-from_Suited}
 use Rattle.mb_din.specs.Written.{din_spelled, din_written}
-use Rattle.mb_frames.specs.Gathered.{TimedByte, gathered}
+use Rattle.mb_frames.specs.Gathered.{TimedByte}
+use Rattle.mb_frames.specs.Tapes.{TapeEnd, fault_in, is_whole, tape_fault}
 use Rattle.mb_guard.specs.Sounding.{Voice, off_marks, off_sign, offs, sounding, sounds, voices, with_items}
 use Rattle.mb_guard.specs.Guard.{voice_at}
 use Rattle.mb_guard.proofs.Followed.{offs-follow}
 use Rattle.mb_guard.proofs.Heard.{voices-are}
 use Rattle.mb_guard.proofs.Silence.{offs-silence}
-use Rattle.mb_carrier.specs.Carrier.{den, marks_of, written}
+use Rattle.mb_carrier.specs.Carrier.{den, notes_of}
 use Rattle.mb_carrier.specs.declared.spec.Spec.{Spec}
 use Rattle.mb_carrier.specs.declared.spec.Spec.TheVariants.{Din}
 use Rattle.mb_carrier.proofs.ConversionLemmas.{laws}
-use Rattle.mb_track.specs.Track.{last_record_moment, recording, track_marks, track_records}
+use Rattle.mb_track.specs.Track.{last_record_moment, recording, track_marks, track_records, track_whole}
 use Rattle.mb_track.proofs.EndLemmas.{all-closed}
 use Rattle.mb_track.proofs.FrontLemmas.{all-signs, all-suit}
-use Rattle.mb_rewrite.specs.Guarded.{guarded, guarded_marks, guarded_tape}
+use Rattle.mb_rewrite.specs.Guarded.{ended, guarded, guarded_marks, guarded_tape}
 use Rattle.mb_rewrite.specs.LineTape.{byte_at, line_tape, timed_behind, timed_bytes}
 use Rattle.mb_rewrite.specs.Recorded.{AreMoments, recorded, track_den}
-use Rattle.mb_rewrite.proofs.RecordedLemmas.{gathered-read, gathered-recording}
+use Rattle.mb_rewrite.proofs.RecordedLemmas.{gathered-read, gathered-recording, gathered-whole}
 use Rattle.mb_rewrite.proofs.RisingLemmas.{bytes-rise, track-moments}
 
 -- the bytes of marks
@@ -56,6 +57,18 @@ bytes-carried puts moments = gathered-read (timed_bytes puts) (bytes-rise puts m
 pub line-carried : (puts : List Put) → AreMoments puts →
     recording 0 (track_records (line_tape puts)) ≡ din_written (signs_in puts)
 line-carried puts moments = gathered-recording (timed_bytes puts) (bytes-rise puts moments) ∙ bytes-are [] puts
+
+pub whole-carried : (puts : List Put) → AreMoments puts → track_whole Din 0 (line_tape puts) ≡ true
+whole-carried puts moments =
+    ap (λ (e : TapeEnd). is_whole e && true) (gathered-whole (timed_bytes puts) (bytes-rise puts moments))
+
+pub no-fault-carried : (puts : List Put) → AreMoments puts → tape_fault (line_tape puts) ≡ None
+no-fault-carried puts moments = ap fault_in (gathered-whole (timed_bytes puts) (bytes-rise puts moments))
+
+pub clean-carried : (puts : List Put) → AreMoments puts → suited (signs_in puts) ≡ true → AreValid (signs_in puts) →
+    notes_of Din (recording 0 (track_records (line_tape puts))) ≡ []
+clean-carried puts moments suits valid =
+    ap (notes_of Din) (line-carried puts moments) ∙ (laws Din).clean tt puts suits valid
 
 pub meaning-carried : (puts : List Put) → AreMoments puts → suited (signs_in puts) ≡ true → AreValid (signs_in puts) →
     track_den Din 0 (line_tape puts) ≡ denotation (signs_in puts)
@@ -161,9 +174,6 @@ guarded-valid s tape =
 pub track-means : (s : Spec) (tape : List ℕ) → denotation (signs_in (track_marks s 0 tape)) ≡ track_den s 0 tape
 track-means s tape = ap denotation (all-signs s 0 tape)
 
-abbrev pub ended : Denotation → Denotation
-ended den = with_items den (offs den.items)
-
 pub guarded-means : (s : Spec) (tape : List ℕ) →
     denotation (signs_in (guarded_marks s tape)) ≡ ended (track_den s 0 tape)
 guarded-means s tape =
@@ -177,11 +187,14 @@ pub guarded-silent : (s : Spec) (tape : List ℕ) →
 guarded-silent s tape =
     ap (λ (d : Denotation). sounding d.items) (guarded-means s tape) ∙ offs-silence (track_den s 0 tape).items
 
+pub guarded-moments : (s : Spec) (tape : List ℕ) → last_record_moment (track_records tape) < 2 ^ 64 →
+    AreMoments (guarded_marks s tape)
+guarded-moments s tape fits = track-moments s 0 tape (off_marks (signs_in (track_marks s 0 tape))) fits
+
 pub guarded-read : (s : Spec) (tape : List ℕ) → last_record_moment (track_records tape) < 2 ^ 64 →
     track_den Din 0 (guarded_tape s tape) ≡ ended (track_den s 0 tape)
 guarded-read s tape fits =
-    meaning-carried (guarded_marks s tape)
-    (track-moments s 0 tape (off_marks (signs_in (track_marks s 0 tape))) fits) (guarded-suits s tape)
+    meaning-carried (guarded_marks s tape) (guarded-moments s tape fits) (guarded-suits s tape)
     (guarded-valid s tape) ∙ guarded-means s tape
 
 pub guarded-read-silent : (s : Spec) (tape : List ℕ) → last_record_moment (track_records tape) < 2 ^ 64 →

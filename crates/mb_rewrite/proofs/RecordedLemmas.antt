@@ -7,12 +7,12 @@ use Rattle.std.proofs.lemmas.Bool.Decides.{nat_tests}
 use Rattle.std.proofs.lemmas.List.{map-append}
 use Rattle.std.proofs.lemmas.List.Concat.{flat_map-append}
 use Rattle.mb_frames.specs.Tapes.{AreRecords, IsRight, Record, RecordByte, RecordEnd, RecordPart, record_parts, tape}
-use Rattle.mb_frames.specs.Tapes.{tape_parts, tape_read}
+use Rattle.mb_frames.specs.Tapes.{Whole, tape_parts, tape_read}
 use Rattle.mb_frames.specs.Gathered.{Stretch, TimedByte, alone, before, gathered, gathered_records, piece_record, pieces}
 use Rattle.mb_frames.specs.Gathered.{pieces_from, stretch_records, stretches}
-use Rattle.mb_frames.specs.TapeSteps.{parts_from}
+use Rattle.mb_frames.specs.TapeSteps.{ending_at}
 use Rattle.mb_frames.proofs.TapeLiteral.{tape-reads}
-use Rattle.mb_frames.proofs.TapeRecords.{behind_form, none-behind, tapes-parts}
+use Rattle.mb_frames.proofs.TapeRecords.{behind_form, ending-records, none-behind, tapes-after, tapes-parts}
 use Rattle.mb_track.specs.Track.{begun, bytes_on, recording, records_from, records_of, track_records, with_bytes}
 use Rattle.mb_track.proofs.RecordLemmas.{records-bytes, recording-append}
 use Rattle.mb_rewrite.specs.LineTape.{byte_at}
@@ -127,6 +127,13 @@ tape-records rs are =
     ∙ (ap (λ ps. flat_map (record_parts true) rs ++ ps) (none-behind (behind_form true) rs)
     ∙ append-nil (flat_map (record_parts true) rs)))))
     ∙ records-again rs
+
+pub gathered-whole : (ts : List TimedByte) → TimesRise 0 ts → (tape_read (gathered ts)).ending ≡ Whole
+gathered-whole ts rise =
+    let rs = gathered_records ts in
+    ap (λ z. (tape_read z).ending) (sym (append-nil (tape true rs)))
+    ∙ (sym (tape-reads (tape true rs ++ [])).ending
+    ∙ (ap ending_at (tapes-after true rs [] (gathered-right ts rise)) ∙ ending-records (behind_form true) rs))
 
 -- the records hold the bytes that were gathered
 
