@@ -2,3 +2,6 @@ pub mod LineLemmas
 pub mod GuardLemmas
 pub mod EndLemmas
 pub mod FeedLemmas
+pub mod RecordedLemmas
+pub mod RisingLemmas
+pub mod CarriedLemmas

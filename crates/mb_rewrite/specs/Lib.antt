@@ -2,3 +2,4 @@ pub mod LineTape
 pub mod Line
 pub mod Guarded
 pub mod Guarding
+pub mod Recorded

@@ -3,6 +3,7 @@
 #![tactic(auto)]
 
 mod guarding;
+pub mod laws;
 mod line;
 
 pub use guarding::Guarding;
