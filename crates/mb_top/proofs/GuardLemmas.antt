@@ -1,5 +1,5 @@
 -- A tape whose notes are ended, as a job says it.
-use Rattle.std.proofs.Common.{◌≡◌, ℕ, ◌≤◌, ◌^◌, Bool, not, false, List, [], ◌∷◌, ◌++◌, length, refl, sym, ◌∙◌}
+use Rattle.std.proofs.Common.{◌≡◌, ℕ, ◌≤◌, ◌^◌, Bool, not, true, false, List, [], ◌∷◌, ◌++◌, length, refl, sym, ◌∙◌}
 use Rattle.std.proofs.Common.{ap, subst, append_assoc}
 use Rattle.std.specs.Prelude.{Option}
 use Rattle.mb_message.specs.Front.{IsFront}
@@ -47,10 +47,10 @@ guarded-closes s (b ∷ bs) =
     (f.0, ap line_tape (append_assoc so_far (track_end s 0 tape) offs) ∙ f.1)
 
 pub job-guard_fed : (j : Job) (g now : Guarding) (piece : List ℕ) (told : Option TapeFault) (fault : Option Fault)
-    (took : List ℕ → Type 0) → j ≡ job.Guard g → fault ≡ in_tape told →
+    (took : List ℕ → Type 0) → j ≡ job.Guard g → fault ≡ in_tape told → guarding_spec now ≡ guarding_spec g →
     Rewrote (GuardingStands g) (GuardingStands now) (guarded_so_far (guarding_spec g)) piece told took →
     JobFed (job_command j) (JobStands j) (JobStands (job.Guard now)) (JobStops (job.Guard now)) piece fault took
-job-guard_fed j g now piece told fault took e is r =
+job-guard_fed j g now piece told fault took e is same r =
     subst (λ (k : Job). JobFed (job_command k) (JobStands k) (JobStands (job.Guard now)) (JobStops (job.Guard now)) piece fault
     took) (sym e)
     (record {

@@ -22,7 +22,7 @@ use Rattle.mb_top.specs.declared.job.Job.{Job}
 use Rattle.mb_top.specs.declared.job.Job.TheVariants as job
 
 -- a player that was fed these bytes
-player : List ℕ → Playing
+abbrev player : List ℕ → Playing
 player [] = fresh_playing
 player (b ∷ bs) = playing_behind fresh_playing (b ∷ bs)
 

@@ -1,7 +1,7 @@
 -- A tape that is recorded, as a job says it.
 use Rattle.std.proofs.Common.{◌≡◌, ℕ, ◌≤◌, ◌^◌, Bool, not, false, List, [], ◌∷◌, ◌++◌, length, refl, sym, ◌∙◌}
 use Rattle.std.proofs.Common.{ap, subst}
-use Rattle.std.specs.Prelude.{Option, None, Some}
+use Rattle.std.specs.Prelude.{Option, None, Some, Result, Ok, Err, IfOk, OnErr}
 use Rattle.mb_message.specs.Front.{IsFront, IsPart}
 use Rattle.mb_stream.specs.Puts.{Put}
 use Rattle.mb_smf.specs.declared.writer.SmfFull.{SmfFull}
@@ -11,7 +11,10 @@ use Rattle.mb_carrier.specs.declared.spec.Spec.{Spec}
 use Rattle.mb_carrier.proofs.Fronts.{front-then}
 use Rattle.mb_track.specs.Track.{track_end, track_marks, track_marks_so_far, track_whole}
 use Rattle.mb_tapes.specs.Recorded.{CanBeRecorded, FirstLeftOut, recorded_file}
-use Rattle.mb_tapes.specs.Recording.{RecordedOn, RecordingStands, recording_spec}
+use Rattle.mb_tapes.specs.Recording.{IfFull, IfRefused, RecordedOn, RecordingStands, recording_spec}
+use Rattle.mb_tapes.specs.declared.recording.RecordingStop.{RecordingStop}
+use Rattle.mb_tapes.specs.declared.recording.RecordingStop.TheVariants as stop
+use Rattle.mb_outside.specs.declared.out.Refused.{Refused}
 use Rattle.mb_tapes.specs.declared.recording.Recording.{Recording}
 use Rattle.mb_words.specs.Command.{RecordingTape}
 use Rattle.mb_top.specs.Output.{Shows, in_tape, is_whole, output_of}
@@ -44,7 +47,7 @@ shows-full s tape (full.Gap was now) l = l
 shows-full s tape full.Track l = l
 shows-full s tape (full.Memory memory) l = tt
 
-record-by : (s : Spec) (r : Recording) (bytes : List ℕ) (told : Option Recording) → told ≡ Some r →
+pub record-by : (s : Spec) (r : Recording) (bytes : List ℕ) (told : Option Recording) → told ≡ Some r →
     RecordStands s told bytes → RecordStands s (Some r) bytes
 record-by s r bytes told e h = subst (λ (x : Option Recording). RecordStands s x bytes) e h
 
@@ -130,12 +133,28 @@ job-record_fed j s r now piece f took e none recorded =
     kept_by None bytes p = p.1
     kept_by (Some g) bytes p = p
 
-pub job-record_ended : (j : Job) (s : Spec) (r now : Option Recording) (told : Ending) (took : List ℕ → Type 0) →
-    j ≡ job.Record s r → ((t : Spec) (bytes : List ℕ) → RecordStands t r bytes → RecordEnded t bytes told took) →
-    took [] → JobEndedAs (job_command j) (JobStands j) (JobDone (job.Record s now)) told took
-job-record_ended j s r now told took e ended none =
+pub if-full : (x : RecordingStop) (why : SmfFull) (P : SmfFull → Type 0) → x ≡ stop.Full why →
+    IfFull (Err x) P → P why
+if-full x why P e h = subst (λ (y : RecordingStop). IfFull (Err y) P) e h
+
+pub if-refused : (x : RecordingStop) (refused : Refused) (P : Type 0) → x ≡ stop.Refused refused →
+    IfRefused (Err x) P → P
+if-refused x refused P e h = subst (λ (y : RecordingStop). IfRefused (Err y) P) e h
+
+-- what was recorded of a spec's tape, at the spec
+pub at-spec : (s : Spec) (r : Recording) (bytes : List ℕ) (claim : List ℕ → Type 0) → RecordStands s (Some r) bytes →
+    claim (recorded_file (recording_spec r) bytes) → claim (recorded_file s bytes)
+at-spec s r bytes claim h c = subst (λ (x : Spec). claim (recorded_file x bytes)) h.0 c
+
+pub job-record_ended : {E : Type 0} (res : Result Ending E) (j : Job) (s : Spec) (r taken now : Option Recording)
+    (took : List ℕ → Type 0) → j ≡ job.Record s r → taken ≡ r →
+    ((t : Spec) (bytes : List ℕ) → RecordStands t taken bytes → IfOk res (λ told. RecordEnded t bytes told took)) →
+    ((bytes : List ℕ) × JobStands j bytes × (length bytes ≤ 2 ^ 40)) →
+    IfOk res (λ told. JobEndedAs (job_command j) (JobStands j) (JobDone (job.Record s now)) told took)
+job-record_ended (Err x) j s r taken now took e same ended w = tt
+job-record_ended (Ok told) j s r taken now took e same ended w =
     subst (λ (k : Job). JobEndedAs (job_command k) (JobStands k) (JobDone (job.Record s now)) told took) (sym e)
-    (by told (λ bytes h. ended s bytes h))
+    (by told (λ bytes h. ended s bytes (subst (λ (x : Option Recording). RecordStands s x bytes) (sym same) h)))
   where
     by : (x : Ending) → ((bytes : List ℕ) → RecordStands s r bytes → RecordEnded s bytes x took) →
         JobEndedAs (RecordingTape s) (RecordStands s r) (λ bytes. Unit {0}) x took
@@ -149,18 +168,28 @@ job-record_ended j s r now told took e ended none =
     }
     by ending.Noted all = λ bytes h. absurd (all bytes h)
     by (ending.Kept f) all = record {
-      took_none = none;
+      took_none = (all w.0 (record-at j s r w.0 e w.1)).0;
       none_live = λ bytes h. refl;
       shows = λ bytes h. (all bytes h).1;
     }
 
-pub job-record_end_halted : (j : Job) (s : Spec) (r : Option Recording) (took : List ℕ → Type 0) → j ≡ job.Record s r →
-    ((t : Spec) (bytes : List ℕ) → RecordStands t r bytes →
-    (front : List ℕ) × IsPart front (recorded_file t bytes) × took front) →
-    JobEndHalted (job_command j) (JobStands j) took
-job-record_end_halted j s r took e halted =
+pub record-given : (j : Job) (s : Spec) (r taken : Option Recording) → j ≡ job.Record s r → taken ≡ r →
+    ((bytes : List ℕ) × JobStands j bytes × (length bytes ≤ 2 ^ 40)) →
+    (t : Spec) × (bytes : List ℕ) × RecordStands t taken bytes
+record-given j s r taken e same w =
+    (s, w.0, subst (λ (x : Option Recording). RecordStands s x w.0) (sym same) (record-at j s r w.0 e w.1))
+
+pub job-record_end_halted : {T E : Type 0} (res : Result T E) (j : Job) (s : Spec) (r taken : Option Recording)
+    (took : List ℕ → Type 0) → j ≡ job.Record s r → taken ≡ r →
+    ((t : Spec) (bytes : List ℕ) → RecordStands t taken bytes →
+    OnErr res ((front : List ℕ) × IsPart front (recorded_file t bytes) × took front)) →
+    OnErr res (JobEndHalted (job_command j) (JobStands j) took)
+job-record_end_halted (Ok x) j s r taken took e same halted = tt
+job-record_end_halted (Err x) j s r taken took e same halted =
     subst (λ (k : Job). JobEndHalted (job_command k) (JobStands k) took) (sym e)
-    (λ bytes h. let f = halted s bytes h in record { given = f.0; took_it = f.2; part = f.1 })
+    (λ bytes h.
+    let f = halted s bytes (subst (λ (y : Option Recording). RecordStands s y bytes) (sym same) h) in
+    record { given = f.0; took_it = f.2; part = f.1 })
 
 pub job-record_stopped : (j : Job) (s : Spec) (r : Option Recording) (took : List ℕ → Type 0) → j ≡ job.Record s r →
     took [] → JobStopped (job_command j) (JobStops j) took

@@ -1,5 +1,5 @@
 -- A command on its way, over a desk that tells its contents.
-use Rattle.std.proofs.Common.{◌≡◌, Bool, IsTrue, ℕ, ◌+◌, ◌-◌, ◌<◌, ◌≤◌, true, false, not, List, ◌++◌, [], length}
+use Rattle.std.proofs.Common.{◌≡◌, Bool, IsTrue, ℕ, ◌+◌, ◌-◌, ◌<◌, ◌≤◌, ◌^◌, true, false, not, List, ◌++◌, [], length}
 use Rattle.std.proofs.Common.{take, drop, refl, inl, inr, sym, ◌∙◌, ap, subst, append_assoc, arith, length-append}
 use Rattle.std.proofs.lemmas.List.{append-nil, take-append-drop, drop_at, length-take-le, take-append-le}
 use Rattle.mb_outside.specs.Contents.{Contents, Gives, after_read, after_write}
@@ -27,9 +27,16 @@ use Rattle.mb_top.specs.Output.{tally_of, may_want_memory, reads_tape, reads_fil
 use Rattle.mb_smf.specs.declared.writer.SmfFull.{SmfFull}
 use Rattle.mb_smf.specs.declared.writer.SmfFull.TheVariants as full
 use Rattle.mb_top.specs.Job.{JobFed, JobHalted, JobEndedAt, JobEndHaltedAt, JobStopped, JobKept, JobTold}
-use Rattle.mb_top.specs.Job.{JobTellHalted, Remarked}
+use Rattle.mb_top.specs.Job.{JobEnded, JobEndedAs, JobStands, JobStops, JobTellHalted, Remarked}
+use Rattle.mb_outside.specs.Cause.{Rose}
+use Rattle.mb_top.specs.declared.ending.Ending.{Ending}
+use Rattle.mb_top.specs.declared.ending.Ending.TheVariants as ending
+use Rattle.mb_top.specs.declared.job.Job.{Job}
+use Rattle.mb_top.specs.declared.job.Job.TheVariants as job
+use Rattle.mb_top.specs.Output.{writes_at_stop}
 use Rattle.mb_top.specs.Answer.{EndsAs, DidAll, WroteFront, all_but_last, PIECE}
-use Rattle.mb_top.specs.Ran.{Closed, Ran, RanEnd, RanStop, MayAnswer, at_end, written_of}
+use Rattle.mb_top.specs.Ran.{Closed, Faulted, HasClosed, HasStopped, Ran, RanEnd, RanStop, MayAnswer, at_end}
+use Rattle.mb_top.specs.Ran.{written_of}
 use Rattle.mb_top.specs.declared.status.Status.{Status}
 use Rattle.mb_top.specs.declared.status.Status.TheVariants.{Stopped}
 use Rattle.mb_top.specs.declared.status.Stop.TheVariants.{ReadFault, Refused, TooLong, Faulty}
@@ -149,6 +156,43 @@ quietly : (input output : List ℕ) (before now : Contents) →
     now ≡ after_write 1 output (after_read 0 (length input) before) → now ≡ written_of input output [] before
 quietly input output before now e = e ∙ sym (after_write-none 2 (after_write 1 output (after_read 0
     (length input) before)))
+
+-- a front of some bytes is written in what is written of them
+live-front : (c : Command) (p bytes : List ℕ) → IsFront p bytes → IsFront (live_output_of c p) (live_output_of c bytes)
+live-front c p bytes f =
+    let stays = command-stays c p f.0 in
+    (stays.0, ap (λ bs. live_output_of c bs) f.1 ∙ stays.1)
+
+-- all but the last read
+all_but_last-front : (bytes piece : List ℕ) → length piece ≤ PIECE → IsFront (all_but_last PIECE (bytes ++ piece)) bytes
+all_but_last-front bytes piece few =
+    let n = length (bytes ++ piece) - PIECE in
+    let short : length (bytes ++ piece) - PIECE ≤ length bytes = omega (arith, length-append bytes piece) in (
+      drop n bytes,
+      sym (take-append-drop n bytes)
+          ∙ ap (λ xs. xs ++ drop n bytes) (sym (take-append-le n bytes piece short)),
+    )
+
+all_but_last-own : (bytes : List ℕ) → IsFront (all_but_last PIECE bytes) bytes
+all_but_last-own bytes = (drop (length bytes - PIECE) bytes, sym (take-append-drop (length bytes - PIECE) bytes))
+
+-- what is known of all but the last bytes was written
+known-front : (c : Command) (bytes given : List ℕ) →
+    IsFront (live_output_of c (all_but_last PIECE bytes)) (live_output_of c bytes ++ given)
+known-front c bytes given = front-then _ _ _ (live-front c (all_but_last PIECE bytes) bytes (all_but_last-own bytes))
+    (given, refl)
+
+-- a part of what all of the input gives was written
+wrote-part : (c : Command) (bytes given : List ℕ) → IsPart (live_output_of c bytes ++ given) (output_of c bytes) →
+    WroteFront c bytes (live_output_of c bytes ++ given) []
+wrote-part c bytes given part =
+    record {
+      front = part-front _ _ part;
+      at_least = known-front c bytes given;
+      tally_front = (tally_of c bytes, refl);
+      behind = inl refl;
+      unfinished = λ all told. part-differs _ _ part all;
+    }
 
 -- the input was stopped: what the answer says if what is owed was written is a premise
 pub ran-stop : (c d : Command) (limit : ℕ) (before old now : Contents) (bytes : List ℕ) (stop : Stop) (status : Status) →
@@ -382,43 +426,6 @@ pub cut-at : (d c : Command) (cut : Bool) (bytes : List ℕ) → d ≡ c → cut
     cut ≡ not (is_whole c bytes)
 cut-at d c cut bytes same h = h ∙ ap (λ (x : Command). not (is_whole x bytes)) same
 
--- a front of some bytes is written in what is written of them
-live-front : (c : Command) (p bytes : List ℕ) → IsFront p bytes → IsFront (live_output_of c p) (live_output_of c bytes)
-live-front c p bytes f =
-    let stays = command-stays c p f.0 in
-    (stays.0, ap (λ bs. live_output_of c bs) f.1 ∙ stays.1)
-
--- all but the last read
-all_but_last-front : (bytes piece : List ℕ) → length piece ≤ PIECE → IsFront (all_but_last PIECE (bytes ++ piece)) bytes
-all_but_last-front bytes piece few =
-    let n = length (bytes ++ piece) - PIECE in
-    let short : length (bytes ++ piece) - PIECE ≤ length bytes = omega (arith, length-append bytes piece) in (
-      drop n bytes,
-      sym (take-append-drop n bytes)
-          ∙ ap (λ xs. xs ++ drop n bytes) (sym (take-append-le n bytes piece short)),
-    )
-
-all_but_last-own : (bytes : List ℕ) → IsFront (all_but_last PIECE bytes) bytes
-all_but_last-own bytes = (drop (length bytes - PIECE) bytes, sym (take-append-drop (length bytes - PIECE) bytes))
-
--- what is known of all but the last bytes was written
-known-front : (c : Command) (bytes given : List ℕ) →
-    IsFront (live_output_of c (all_but_last PIECE bytes)) (live_output_of c bytes ++ given)
-known-front c bytes given = front-then _ _ _ (live-front c (all_but_last PIECE bytes) bytes (all_but_last-own bytes))
-    (given, refl)
-
--- a part of what all of the input gives was written
-wrote-part : (c : Command) (bytes given : List ℕ) → IsPart (live_output_of c bytes ++ given) (output_of c bytes) →
-    WroteFront c bytes (live_output_of c bytes ++ given) []
-wrote-part c bytes given part =
-    record {
-      front = part-front _ _ part;
-      at_least = known-front c bytes given;
-      tally_front = (tally_of c bytes, refl);
-      behind = inl refl;
-      unfinished = λ all told. part-differs _ _ part all;
-    }
-
 -- the end was refused
 pub end-halted : (c : Command) (before now : Contents) (bytes : List ℕ) (took : List ℕ → Type 0) →
     (h : JobEndHaltedAt c bytes took) → now ≡ after_write 1 h.given before →
@@ -500,3 +507,137 @@ so_far-fed tells contents read_faults c was goes stops start old mid now bytes p
           (read-piece c (contents start) (contents old) (contents mid) bytes buffer piece count (told t) (gives t) cut)
           (f.took_it.contents_are t) (f.beyond bytes stands) (f.kept bytes stands),
     )
+
+-- what the end shows, by its answer
+
+pub ended-quiet : (c : Command) (was now : List ℕ → Type 0) (told : Ending) (took : List ℕ → Type 0) →
+    told ≡ ending.Quiet → JobEndedAs c was now told took → JobEnded c was now false took
+ended-quiet c was now told took e h = subst (λ (x : Ending). JobEndedAs c was now x took) e h
+
+pub ended-noted : (c : Command) (was now : List ℕ → Type 0) (told : Ending) (took : List ℕ → Type 0) →
+    told ≡ ending.Noted → JobEndedAs c was now told took → JobEnded c was now true took
+ended-noted c was now told took e h = subst (λ (x : Ending). JobEndedAs c was now x took) e h
+
+pub ended-kept : (c : Command) (was now : List ℕ → Type 0) (told : Ending) (f : Fault) (took : List ℕ → Type 0) →
+    told ≡ ending.Kept f → JobEndedAs c was now told took → JobKept c was f took
+ended-kept c was now told f took e h = subst (λ (x : Ending). JobEndedAs c was now x took) e h
+
+pub may-kept : (c d : Command) (was : List ℕ → Type 0) (f : Fault) (took : List ℕ → Type 0) → d ≡ c →
+    ((bytes : List ℕ) × was bytes × (length bytes ≤ 2 ^ 40)) → JobKept d was f took →
+    MayAnswer c (Stopped (Faulty f))
+may-kept c d was f took same w k =
+    may-faulty c w.0 f (subst (λ (x : Command). Shows x w.0 f) same (k.shows w.0 w.1))
+
+-- faults of reading and writing
+
+false-true : false ≡ true → ⊥
+false-true e = cc
+
+not-read_fault : Stopped Refused ≡ Stopped ReadFault → ⊥
+not-read_fault e = cc
+
+pub stop-faults : (c d : Command) (stop : Stop) (reads reads_mid reads_now writes writes_mid writes_now : ℕ)
+    (status : Status) → d ≡ c → Faulted (writes_at_stop c ≡ false) reads reads_mid writes writes_mid (Stopped stop) →
+    HasStopped d stop writes_mid writes_now status → reads_now ≡ reads_mid →
+    Faulted (writes_at_stop c ≡ false) reads reads_now writes writes_now status
+stop-faults c d stop reads reads_mid reads_now writes writes_mid writes_now status same f how still =
+    subst (λ (n : ℕ). Faulted (writes_at_stop c ≡ false) reads n writes writes_now status) (sym still)
+    (elim how [
+      | inl e ↦ subst (λ (s : Status). Faulted (writes_at_stop c ≡ false) reads reads_mid writes writes_now s) (sym e.0)
+          (subst (λ (n : ℕ). Faulted (writes_at_stop c ≡ false) reads reads_mid writes n (Stopped stop)) (sym e.1) f)
+      | inr e ↦ subst (λ (s : Status). Faulted (writes_at_stop c ≡ false) reads reads_mid writes writes_now s) (sym e.0)
+          (refused e.1 (ap writes_at_stop (sym same) ∙ e.2))
+    ])
+  where
+    refused : Rose writes_mid writes_now → writes_at_stop c ≡ true →
+        Faulted (writes_at_stop c ≡ false) reads reads_mid writes writes_now (Stopped Refused)
+    refused rose late =
+        record {
+          reads_later = f.reads_later;
+          writes_later = omega (arith, f.writes_later, rose);
+          read = λ e. absurd (not-read_fault e);
+          write = λ e. omega (arith, f.writes_later, rose);
+          unread = λ other quiet. absurd (false-true (sym (quiet refl) ∙ late));
+          unwritten = λ other. absurd (other refl);
+        }
+
+pub close-faults : (closing : Status) (reads reads_now writes writes_mid writes_now : ℕ) (status : Status) →
+    (closing ≡ Stopped ReadFault → ⊥) → (closing ≡ Stopped Refused → ⊥) → writes_mid ≡ writes →
+    HasClosed closing writes_mid writes_now status → reads_now ≡ reads →
+    Faulted (Unit {0}) reads reads_now writes writes_now status
+close-faults closing reads reads_now writes writes_mid writes_now status no_read no_write same how still =
+    elim how [
+      | inl e ↦ record {
+          reads_later = omega (arith, still);
+          writes_later = omega (arith, same, e.1);
+          read = λ h. absurd (no_read (sym e.0 ∙ h));
+          write = λ h. absurd (no_write (sym e.0 ∙ h));
+          unread = λ other quiet. still;
+          unwritten = λ other. e.1 ∙ same;
+        }
+      | inr e ↦ record {
+          reads_later = omega (arith, still);
+          writes_later = omega (arith, same, e.1);
+          read = λ h. absurd (not-read_fault (sym e.0 ∙ h));
+          write = λ h. omega (arith, same, e.1);
+          unread = λ other quiet. still;
+          unwritten = λ other. absurd (other e.0);
+        }
+    ]
+
+pub at_end-no_read : (cut noted : Bool) → at_end cut noted ≡ Stopped ReadFault → ⊥
+at_end-no_read true noted e = cc
+at_end-no_read false true e = cc
+at_end-no_read false false e = cc
+
+pub at_end-no_write : (cut noted : Bool) → at_end cut noted ≡ Stopped Refused → ⊥
+at_end-no_write true noted e = cc
+at_end-no_write false true e = cc
+at_end-no_write false false e = cc
+
+-- where the input is stopped
+pub stops-later : (j : Job) (bytes : List ℕ) → JobStands j bytes → JobStops j bytes
+stops-later (job.Convert tally specs chain) bytes h = h
+stops-later (job.List list) bytes h = h
+stops-later (job.Migrate tape) bytes h = h
+stops-later (job.Record s recording) bytes h = tt
+stops-later (job.Play playing) bytes h = h
+stops-later (job.Guard guarding) bytes h = h
+
+pub stop-stands : (j : Job) (bytes piece : List ℕ) (count limit : ℕ) → JobStops j (bytes ++ piece) →
+    length piece ≡ count → length bytes + count ≤ limit → limit ≤ 2 ^ 40 →
+    (all : List ℕ) × JobStops j all × (length all ≤ 2 ^ 40)
+stop-stands j bytes piece count limit h size within most =
+    (bytes ++ piece, h, omega (arith, length-append bytes piece, size, within, most))
+
+pub so_far-same : (c : Command) (before old now : Contents) (bytes : List ℕ) → now ≡ old → SoFar c before old bytes →
+    SoFar c before now bytes
+so_far-same c before old now bytes same s = record { front = s.front; contents = same ∙ s.contents; sound = s.sound }
+
+-- the reading failed, or nothing did
+
+pub read_fault-told : (quiet : Type 0) (reads reads_old reads_now writes writes_now : ℕ) → reads_old ≡ reads →
+    writes_now ≡ writes → reads_old ≤ reads_now → Rose reads_old reads_now →
+    Faulted quiet reads reads_now writes writes_now (Stopped ReadFault)
+read_fault-told quiet reads reads_old reads_now writes writes_now same still later rose =
+    record {
+      reads_later = omega (arith, same, later);
+      writes_later = omega (arith, still);
+      read = λ e. omega (arith, same, rose);
+      write = λ e. cc;
+      unread = λ other quiet. absurd (other refl);
+      unwritten = λ other. still;
+    }
+
+pub no_fault-told : (quiet : Type 0) (stop : Stop) (reads reads_now writes writes_now : ℕ) →
+    (Stopped stop ≡ Stopped ReadFault → ⊥) → (Stopped stop ≡ Stopped Refused → ⊥) → reads_now ≡ reads →
+    writes_now ≡ writes → Faulted quiet reads reads_now writes writes_now (Stopped stop)
+no_fault-told quiet stop reads reads_now writes writes_now no_read no_write still same =
+    record {
+      reads_later = omega (arith, still);
+      writes_later = omega (arith, same);
+      read = λ e. absurd (no_read e);
+      write = λ e. absurd (no_write e);
+      unread = λ other quiet. still;
+      unwritten = λ other. same;
+    }

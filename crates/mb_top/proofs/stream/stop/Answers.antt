@@ -6,7 +6,7 @@ returns-in-Ok-clause-ran g c = λ tells bytes stands.
     let stopped = c.in-Ok.ensures.stopped in
     stop-ran _ bytes _ _ _ _ _ stands stopped (stopped.took_it.contents_are tells)
 
-pub returns-in-Err-clause-ran : goal.returns-in-Err-clause-ran
-returns-in-Err-clause-ran g c = λ tells bytes stands.
-    let halted = c.in-Err.ensures.halted in
-    stop-halted _ bytes _ _ _ _ _ stands halted (halted.took_it.contents_are tells)
+pub returns-clause-ran : goal.returns-clause-ran
+returns-clause-ran g c = λ tells bytes stands.
+    let halted = c.in-Err.ensures.halted bytes stands in
+    stop-halted _ bytes _ _ _ _ halted (halted.took_it.contents_are tells)
