@@ -67,6 +67,9 @@ abbrev pub Tells : Option Fault → (answer : ℕ) → Type 0
 Tells None n = (n ≡ 7 → ⊥) × (n ≡ 13 → ⊥)
 Tells (Some (fault.Tape f)) n = n ≡ 7
 Tells (Some (fault.File f)) n = n ≡ 13
+Tells (Some fault.LongTrack) n = n ≡ 11
+Tells (Some (fault.LongGap was now)) n = n ≡ 12
+Tells (Some fault.Memory) n = n ≡ 9
 
 -- no write failed
 pub record Carried (c : Command) (left read written : List ℕ) (answer : ℕ) : Type 0 where
@@ -171,6 +174,10 @@ carried-completes words limit before after faults faults_now answer c w m all is
 
 -- of a tape, and of a file
 
+pub tape-told : (told : Option TapeFault) (answer : ℕ) → Tells (in_tape told) answer → (answer ≡ 7) ↔ IsSome told
+tape-told None answer t = (λ e. absurd (t.0 e), λ some. absurd (wrong (sym some)))
+tape-told (Some f) answer t = (λ e. refl, λ some. t)
+
 -- the fault of a tape, by the command that reads it
 pub tape_fault-told : (c : Command) (read : List ℕ) (answer : ℕ) → rewrites c ≡ true → reads_tape c ≡ true →
     Tells (fault_of c read) answer → (answer ≡ 7) ↔ IsSome (tape_fault read)
@@ -181,10 +188,6 @@ tape_fault-told Migrating read answer r e t = tape-told (tape_fault read) answer
 tape_fault-told PlayingFile read answer r e t = absurd (wrong (sym e))
 tape_fault-told (GuardingTape s) read answer r e t = tape-told (tape_fault read) answer t
 tape_fault-told (Selftesting start count) read answer r e t = absurd (wrong (sym r))
-
-pub tape-told : (told : Option TapeFault) (answer : ℕ) → Tells (in_tape told) answer → (answer ≡ 7) ↔ IsSome told
-tape-told None answer t = (λ e. absurd (t.0 e), λ some. absurd (wrong (sym some)))
-tape-told (Some f) answer t = (λ e. refl, λ some. t)
 
 pub file-told : (told : Option SmfFault) (answer : ℕ) → Tells (in_file told) answer → (answer ≡ 13) ↔ IsSome told
 file-told None answer t = (λ e. absurd (t.1 e), λ some. absurd (wrong (sym some)))

@@ -35,7 +35,8 @@ told-whole start count limit text before after is wrote =
           record {
             all = λ reads. absurd (not-read reads);
             below = λ reads. absurd (not-read reads);
-            sound = refl;
+            can = tt;
+      sound = refl;
             output_is = is;
             tally_is = refl;
           },

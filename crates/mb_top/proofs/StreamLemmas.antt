@@ -10,7 +10,7 @@ use Rattle.mb_outside.specs.TakingLaws.{part-front, part-within, part-differs}
 use Rattle.mb_carrier.specs.Lines.{lines_known}
 use Rattle.mb_carrier.proofs.Fronts.{front-then}
 use Rattle.mb_carrier.proofs.GrowSpecs.{grows}
-use Rattle.std.specs.Prelude.{Option, Some, None}
+use Rattle.std.specs.Prelude.{Option, Some, None, Result, Ok, Err, IfOk, OnErr}
 use Rattle.mb_frames.specs.declared.tape.TapeFault.{TapeFault}
 use Rattle.mb_frames.specs.Tapes.{tape_fault}
 use Rattle.mb_smf.specs.Smf.{smf}
@@ -27,7 +27,7 @@ use Rattle.mb_top.specs.Output.{tally_of, may_want_memory, reads_tape, reads_fil
 use Rattle.mb_smf.specs.declared.writer.SmfFull.{SmfFull}
 use Rattle.mb_smf.specs.declared.writer.SmfFull.TheVariants as full
 use Rattle.mb_top.specs.Job.{JobFed, JobHalted, JobEndedAt, JobEndHaltedAt, JobStopped, JobKept, JobTold}
-use Rattle.mb_top.specs.Job.{JobEnded, JobEndedAs, JobStands, JobStops, JobTellHalted, Remarked}
+use Rattle.mb_top.specs.Job.{JobEnded, JobEndedAs, JobEndHalted, JobStands, JobStops, JobTellHalted, Remarked}
 use Rattle.mb_outside.specs.Cause.{Rose}
 use Rattle.mb_top.specs.declared.ending.Ending.{Ending}
 use Rattle.mb_top.specs.declared.ending.Ending.TheVariants as ending
@@ -35,7 +35,7 @@ use Rattle.mb_top.specs.declared.job.Job.{Job}
 use Rattle.mb_top.specs.declared.job.Job.TheVariants as job
 use Rattle.mb_top.specs.Output.{writes_at_stop}
 use Rattle.mb_top.specs.Answer.{EndsAs, DidAll, WroteFront, all_but_last, PIECE}
-use Rattle.mb_top.specs.Ran.{Closed, Faulted, HasClosed, HasStopped, Ran, RanEnd, RanStop, MayAnswer, at_end}
+use Rattle.mb_top.specs.Ran.{Closed, CommandRan, Faulted, HasClosed, HasStopped, Ran, RanEnd, RanStop, MayAnswer, at_end}
 use Rattle.mb_top.specs.Ran.{written_of}
 use Rattle.mb_top.specs.declared.status.Status.{Status}
 use Rattle.mb_top.specs.declared.status.Status.TheVariants.{Stopped}
@@ -389,9 +389,9 @@ end-ran c d before mid now bytes done cut noted took status same_command is_cut 
                 (record {
                   front = ([], e.beyond ∙ sym (append-nil (live_output_of c bytes ++ e.given)));
                   at_least = known-front c bytes e.given;
-                  tally_front = part-front _ _ (x.1 bytes e.stands);
+                  tally_front = part-front k.tally (tally_of c bytes) (x.1 bytes e.stands);
                   behind = inr (sym e.beyond);
-                  unfinished = λ all told_all. part-differs _ _ (x.1 bytes e.stands) told_all;
+                  unfinished = λ all told_all. part-differs k.tally (tally_of c bytes) (x.1 bytes e.stands) told_all;
                 })
           ];
     }
@@ -546,15 +546,15 @@ stop-faults c d stop reads reads_mid reads_now writes writes_mid writes_now stat
       | inl e ↦ subst (λ (s : Status). Faulted (writes_at_stop c ≡ false) reads reads_mid writes writes_now s) (sym e.0)
           (subst (λ (n : ℕ). Faulted (writes_at_stop c ≡ false) reads reads_mid writes n (Stopped stop)) (sym e.1) f)
       | inr e ↦ subst (λ (s : Status). Faulted (writes_at_stop c ≡ false) reads reads_mid writes writes_now s) (sym e.0)
-          (refused e.1 (ap writes_at_stop (sym same) ∙ e.2))
+          (refused e.1 e.2 (ap writes_at_stop (sym same) ∙ e.3))
     ])
   where
-    refused : Rose writes_mid writes_now → writes_at_stop c ≡ true →
+    refused : Rose writes_mid writes_now → writes_mid ≤ writes_now → writes_at_stop c ≡ true →
         Faulted (writes_at_stop c ≡ false) reads reads_mid writes writes_now (Stopped Refused)
-    refused rose late =
+    refused rose later late =
         record {
           reads_later = f.reads_later;
-          writes_later = omega (arith, f.writes_later, rose);
+          writes_later = omega (arith, f.writes_later, later);
           read = λ e. absurd (not-read_fault e);
           write = λ e. omega (arith, f.writes_later, rose);
           unread = λ other quiet. absurd (false-true (sym (quiet refl) ∙ late));
@@ -577,7 +577,7 @@ close-faults closing reads reads_now writes writes_mid writes_now status no_read
         }
       | inr e ↦ record {
           reads_later = omega (arith, still);
-          writes_later = omega (arith, same, e.1);
+          writes_later = omega (arith, same, e.2);
           read = λ h. absurd (not-read_fault (sym e.0 ∙ h));
           write = λ h. omega (arith, same, e.1);
           unread = λ other quiet. still;
@@ -640,4 +640,60 @@ no_fault-told quiet stop reads reads_now writes writes_now no_read no_write stil
       write = λ e. absurd (no_write e);
       unread = λ other quiet. still;
       unwritten = λ other. same;
+    }
+
+-- the same of another taker
+
+pub ended-took : {E : Type 0} (res : Result Ending E) (c : Command) (was now : List ℕ → Type 0)
+    (took other : List ℕ → Type 0) → ((x : List ℕ) → took x → other x) →
+    IfOk res (λ told. JobEndedAs c was now told took) → IfOk res (λ told. JobEndedAs c was now told other)
+ended-took (Err x) c was now took other moved h = tt
+ended-took (Ok told) c was now took other moved h = by told h
+  where
+    at : (noted : Bool) → JobEnded c was now noted took → JobEnded c was now noted other
+    at noted e = λ bytes s.
+        let r = e bytes s in
+        record {
+          given = r.given;
+          took_it = moved r.given r.took_it;
+          stands = r.stands;
+          beyond = r.beyond;
+          can = r.can;
+          notes = r.notes;
+        }
+
+    by : (x : Ending) → JobEndedAs c was now x took → JobEndedAs c was now x other
+    by ending.Quiet e = at false e
+    by ending.Noted e = at true e
+    by (ending.Kept f) e =
+        record { took_none = moved [] e.took_none; none_live = e.none_live; shows = e.shows }
+
+pub halted-took : {T E : Type 0} (res : Result T E) (c : Command) (was : List ℕ → Type 0) (took other : List ℕ → Type 0) →
+    ((x : List ℕ) → took x → other x) → OnErr res (JobEndHalted c was took) → OnErr res (JobEndHalted c was other)
+halted-took (Ok x) c was took other moved h = tt
+halted-took (Err x) c was took other moved h = λ bytes s.
+    let r = h bytes s in record { given = r.given; took_it = moved r.given r.took_it; part = r.part }
+
+-- there was no memory for what a command needs
+pub nothing-ran : (c : Command) (limit : ℕ) (before : Contents) → may_want_memory c ≡ true →
+    CommandRan c limit before before (Stopped (Faulty fault.Memory))
+nothing-ran (Converting tally first between last) limit before e = cc
+nothing-ran (Listing traced s) limit before e = cc
+nothing-ran Migrating limit before e = cc
+nothing-ran PlayingFile limit before e = cc
+nothing-ran (GuardingTape s) limit before e = cc
+nothing-ran (Selftesting start count) limit before e = cc
+nothing-ran (RecordingTape s) limit before e =
+    record {
+      ran = record {
+        input = [];
+        output = [];
+        tally = [];
+        contents = sym (after_write-none 2 (after_write 1 [] (after_read 0 0 before))
+            ∙ (after_write-none 1 (after_read 0 0 before) ∙ after_read-none 0 before));
+        front = (before.left 0, refl);
+        within = omega arith;
+        ends = (refl, refl, tt);
+      };
+      unread = λ e. refl;
     }

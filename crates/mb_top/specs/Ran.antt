@@ -85,7 +85,7 @@ pub record Closed (c : Command) (done : List ℕ → Type 0) (cut noted : Bool) 
 
 abbrev pub HasClosed : (closing : Status) (writes writes_now : ℕ) → Status → Type 0
 HasClosed closing writes writes_now status =
-    ((status ≡ closing) × (writes_now ≡ writes)) ⊎ ((status ≡ Stopped Refused) × Rose writes writes_now)
+    ((status ≡ closing) × (writes_now ≡ writes)) ⊎ ((status ≡ Stopped Refused) × Rose writes writes_now × (writes ≤ writes_now))
 
 -- an input was stopped: what is owed then was written, or a part of what all of it gives
 pub record RanStop (c : Command) (bytes : List ℕ) (stop : Stop) (before after : Contents) (status : Status) : Type 0
@@ -99,7 +99,7 @@ pub record RanStop (c : Command) (bytes : List ℕ) (stop : Stop) (before after 
 abbrev pub HasStopped : Command → Stop → (writes writes_now : ℕ) → Status → Type 0
 HasStopped c stop writes writes_now status =
     ((status ≡ Stopped stop) × (writes_now ≡ writes))
-    ⊎ ((status ≡ Stopped Refused) × Rose writes writes_now × (writes_at_stop c ≡ true))
+    ⊎ ((status ≡ Stopped Refused) × Rose writes writes_now × (writes ≤ writes_now) × (writes_at_stop c ≡ true))
 
 -- want of memory is answered of commands alone that may want it, notes of `check` alone, what may be wrong of an input
 -- of those that read one, and a fault of a tape or of a file of those that read one

@@ -251,7 +251,7 @@ returns-clause-guards g c = λ s tells m unhindered short is_whole.
     (λ e. write_fault _ _ _ _ _ _ c.run-status.result _ c.code.ensures c.say.ensures.writes c.run-status.ensures.faults
     (c.code.ensures ∙ ap code_of e))
     unhindered.reading unhindered.writing short (λ input f front. shows-none (GuardingTape s) input (writes-all (GuardingTape s) refl)
-    (λ g. tape.whole-sound_tape _ input g (whole-tape s _ is_whole) front) f)
+    (λ told. tape.whole-sound_tape _ input told (whole-tape s ((g.D.Desk.contents c.args.desk.now).left 0) is_whole) front) f)
     (c.run-status.ensures.ran tells))
     is_whole (returns-clause-contents g c tells)
 

@@ -20,6 +20,6 @@ returns-in-WriteFault-clause-faults g c =
       writes_later = ensures.later;
       read = λ e. cc;
       write = λ e. ensures.cause refl;
-      unread = λ other. ensures.read_faults;
+      unread = λ other quiet. ensures.read_faults;
       unwritten = λ other. absurd (other refl);
     }
