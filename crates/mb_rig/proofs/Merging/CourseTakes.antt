@@ -1,0 +1,431 @@
+-- A mark of a link is offered, and is to pass or is held: the course goes on.
+use Rattle.std.proofs.Common.{◌≡◌, ◌≢◌, ◌⊎◌, inl, inr, ⊎_elim, ℕ, zero, suc, ◌+◌, ◌<◌, ◌≤◌, Bool, true, false, List, []}
+use Rattle.std.proofs.Common.{◌∷◌, ◌++◌, length, map, filter, Option, Some, None, refl, ap, sym, subst, ◌∙◌, arith, append-nil}
+use Rattle.std.specs.Prelude.{not, ◌&&◌, ◌||◌, ◌==◌, nat_lt, nat_le, if◌then◌else◌, slice_set, slice_index_or, slice_get}
+use Rattle.std.proofs.lemmas.Bool.Decides.{nat_tests}
+use Rattle.std.proofs.lemmas.List.{length-append}
+use Rattle.std.proofs.lemmas.List.Elements.{filter-append}
+use Rattle.mb_message.specs.declared.mark.Mark.{Mark}
+use Rattle.mb_message.specs.declared.mark.Mark.TheVariants.{Short, Rt, Open, Byte, End, Abort}
+use Rattle.mb_message.specs.Signs.{Sign, sign_of, suits_sign, ShortSign, RtSign, OpenSign, ByteSign, EndSign, AbortSign}
+use Rattle.mb_stream.specs.Puts.{Put, At, signs_in}
+use Rattle.mb_stream.specs.Standing.{is_open}
+use Rattle.mb_stream.proofs.StandingLemmas.{open_after, is_open-push}
+use Rattle.mb_merge.specs.declared.source.Held.{Held}
+use Rattle.mb_merge.specs.Links.{Link, Merger, link_at, link_of}
+use Rattle.mb_merge.specs.Passing.{is_realtime_mark, may_pass, opens, passes_now, taken, offered_mark, offered_in}
+use Rattle.mb_merge.specs.Calls.{IsSettled, may_offer, goes_to}
+use Rattle.mb_merge.proofs.Flows.{link_at-set_same, link_at-set_other}
+use Rattle.mb_merge.proofs.Fits.{Fits, Passes, passes-why, waits-why}
+use Rattle.mb_rig.specs.RigText.{Setup}
+use Rattle.mb_rig.specs.Merging.Lines.{Key, key_at}
+use Rattle.mb_rig.specs.Merging.Run.{AtMost, Drained}
+use Rattle.mb_rig.specs.Merging.Unbroken.{HasOwner}
+use Rattle.mb_rig.specs.Merging.Routed.{key_of, open_of, keys_of, run_of}
+use Rattle.mb_rig.specs.Merging.Tags.{Tag, Play, IsTag, AreTags, is_realtime_sign, is_tag_of, tags_of, tags_passed, takes, under_of, with_held}
+use Rattle.mb_rig.specs.Merging.Order.{Order, newest, sharing}
+use Rattle.mb_rig.specs.Merging.Realtimes.{RealtimesFit, IsLatest, places_of, stands}
+use Rattle.mb_rig.specs.Merging.Places.{AreBelow, Places}
+use Rattle.mb_rig.specs.Merging.Heard.{MayGo, OutsKnown, opens_sign}
+use Rattle.mb_rig.specs.Merging.Course.{Links, Course, MayOffer, Offering, IsReached, AreSorted, IsNotAfter}
+use Rattle.mb_rig.specs.Merging.Course.{at_link, gives, goes_out, next_tag, start_of}
+use Rattle.mb_rig.proofs.Merging.Lateness.{true≢false, none≢some, some_same, same_or_not}
+use Rattle.mb_rig.proofs.Merging.Overtaken.{Anyone}
+use Rattle.mb_rig.proofs.Merging.PlaySteps.{with_held-same, with_held-other}
+use Rattle.mb_rig.proofs.Merging.RouterEvents.{drained_of}
+use Rattle.mb_rig.proofs.Merging.OrderSteps.{order-accepts, order-takes}
+use Rattle.mb_rig.proofs.Merging.RealtimeSteps.{owner-drained}
+use Rattle.mb_rig.proofs.Merging.PlaceSteps.{places-accepts, places-takes, latest-of}
+use Rattle.mb_rig.proofs.Merging.RoutedSteps.{open_kept, keys_kept, realtimes_routed-accepts, realtimes_routed-takes, with_link}
+use Rattle.mb_rig.proofs.Merging.MayGo.{may-go, goes_by, opened_by}
+use Rattle.mb_rig.proofs.Merging.Reached.{reached-offer, reached-fits, reached-settled, reached-shares, reached-sources, reached-goes}
+use Rattle.mb_rig.proofs.Merging.Given.{tags_of-push, place-push, signs-push, here-same, elsewhere, AreTags-push}
+use Rattle.mb_rig.proofs.Merging.CourseMarks.{mark-realtime, mark-opens, suits-opens, offer-may, nothing-held, held-closed}
+use Rattle.mb_rig.proofs.Merging.CourseMarks.{no-tags, no-marks, no-offer}
+
+-- the router behind an offer that passes at once, or doesn't
+abbrev pub offer_by : Merger → (x moment : ℕ) → Mark → (passes : Bool) → Merger
+offer_by m x moment mark passes = record {
+  links = slice_set m.links x (taken (link_of m x) passes moment mark);
+  outs = m.outs;
+  offered = offered_mark passes x moment mark;
+  draining = true;
+}
+
+-- held marks stay sorted
+
+pub sorted-later : (hs : List Held) (last later : ℕ) → AreSorted hs last → last ≤ later → AreSorted hs later
+sorted-later [] last later sorted le = tt
+sorted-later (h ∷ hs) last later sorted le = (sorted.0, omega (arith, sorted.1, le), sorted-later hs last later sorted.2 le)
+
+pub sorted-push : (hs : List Held) (last : ℕ) (h : Held) → AreSorted hs last → last ≤ h.arrival →
+    AreSorted (hs ++ h ∷ []) h.arrival
+sorted-push [] last h sorted le = (tt, omega arith, tt)
+sorted-push (g ∷ []) last h sorted le =
+    let at : g.arrival ≤ last = sorted.1 in (omega (arith, at, le), omega (arith, at, le), (tt, omega arith, tt))
+sorted-push (g ∷ k ∷ hs) last h sorted le =
+    let at : g.arrival ≤ last = sorted.1 in (sorted.0, omega (arith, at, le), sorted-push (k ∷ hs) last h sorted.2 le)
+
+-- a link by its place, one being changed
+pub at_place : (P : ℕ → Link → Type 0) (links : List Link) (x : ℕ) (link : Link) → x < length links → P x link →
+    ((y : ℕ) → y ≢ x → P y (link_at links y)) → (y : ℕ) → P y (link_at (slice_set links x link) y)
+at_place P links x link below here there y = ⊎_elim
+    (λ (e : y ≡ x). subst (λ z. P z (link_at (slice_set links x link) z)) (sym e)
+    (subst (P x) (sym (link_at-set_same links x link below)) here))
+    (λ (apart : y ≢ x). subst (P y) (sym (link_at-set_other links x y link apart)) (there y apart))
+    (same_or_not y x)
+
+filter-one-push : (x : ℕ) (ts : List Tag) (t : Tag) (c : Bool) → is_tag_of x t ≡ c →
+    filter (is_tag_of x) (ts ++ t ∷ []) ≡ filter (is_tag_of x) ts ++ (if c then t ∷ [] else [])
+filter-one-push x ts t c e = filter-append (is_tag_of x) ts (t ∷ [])
+    ∙ ap (λ (b : Bool). filter (is_tag_of x) ts ++ (if b then t ∷ [] else [])) e
+
+pub owners-present : (s : Setup) (m : Merger) (links : Links) (K : Key) (play : Play) → Course s m links K play →
+    m.draining ≡ false → (o : ℕ) → (link_of m o).is_open ≡ true → (k : Key) × (links.present o ≡ Some k)
+owners-present s m links K play course quiet o opened = by_present (links.present o) refl
+  where
+    fits : Fits m
+    fits = reached-fits s m course.reached
+
+    within : (ls : List Link) (y : ℕ) → (link_at ls y).is_open ≡ true → y < length ls
+    within [] y e = absurd (true≢false (sym e))
+    within (l ∷ ls) zero e = omega arith
+    within (l ∷ ls) (suc y) e = let below : y < length ls = within ls y e in omega arith
+
+    by_present : (p : Option Key) → links.present o ≡ p → (k : Key) × (links.present o ≡ Some k)
+    by_present (Some k) e = (k, e)
+    by_present None e =
+        let none : (link_of m o).held ≡ [] =
+        (reached-settled s m course.reached quiet).owners o (within m.links o opened) opened in
+        absurd (true≢false (sym opened ∙ (nothing-held m o fits (fits.quiet quiet).0 none ∙ (course.sysex o ∙ course.over o e))))
+
+pub course-drained : (s : Setup) (m : Merger) (links : Links) (K : Key) (play : Play) → Course s m links K play →
+    m.draining ≡ false → Drained (sharing s.routes) (run_of m links.present links.stalled K (newest play))
+course-drained s m links K play course quiet =
+    drained_of (sharing s.routes) m links.present links.stalled K (newest play) settled (reached-shares s m course.reached)
+    (λ o e. (free o e, owners-present s m links K play course quiet o e)) (λ x e none. some x (course.full x e) none)
+  where
+    settled : IsSettled m
+    settled = reached-settled s m course.reached quiet
+
+    some : (x : ℕ) → 1024 ≤ length (link_of m x).held → (link_of m x).held ≡ [] → ⊥
+    some x many none = let few : length (link_of m x).held ≡ 0 = ap length none in omega (arith, many, few)
+
+    within : (ls : List Link) (y : ℕ) → (link_at ls y).is_open ≡ true → y < length ls
+    within [] y e = absurd (true≢false (sym e))
+    within (l ∷ ls) zero e = omega arith
+    within (l ∷ ls) (suc y) e = let below : y < length ls = within ls y e in omega arith
+
+    free : (o : ℕ) → (link_of m o).is_open ≡ true → links.stalled o ≡ false
+    free o e = by_test (links.stalled o) refl
+      where
+        by_test : (b : Bool) → links.stalled o ≡ b → b ≡ false
+        by_test false f = refl
+        by_test true f = absurd (some o (course.full o f) (settled.owners o (within m.links o e) e))
+
+-- the marks given, one more of this link
+
+given-tags : (play : Play) (links : Links) (x moment : ℕ) (sign : Sign) →
+    ((y : ℕ) → filter (is_tag_of y) play.taken ≡ tags_of y (links.given y)) → (y : ℕ) →
+    filter (is_tag_of y) (play.taken ++ next_tag links x moment sign ∷ []) ≡ tags_of y ((gives links x moment sign).given y)
+given-tags play links x moment sign known y = ⊎_elim own other (same_or_not y x)
+  where
+    t : Tag
+    t = next_tag links x moment sign
+
+    same : (a b : ℕ) → a ≡ b → (b == a) ≡ true
+    same a b e = grind (arith, nat_tests)
+
+    differ : (a b : ℕ) → a ≢ b → (b == a) ≡ false
+    differ a b e = grind (arith, nat_tests, e)
+
+    own : y ≡ x → filter (is_tag_of y) (play.taken ++ next_tag links x moment sign ∷ []) ≡ tags_of y ((gives links x moment sign).given y)
+    own e = subst (λ z. filter (is_tag_of z) (play.taken ++ next_tag links x moment sign ∷ []) ≡ tags_of z ((gives links x moment sign).given z)) (sym e)
+        (filter-one-push x play.taken (next_tag links x moment sign) true (same x x refl)
+        ∙ (ap (λ ts. ts ++ next_tag links x moment sign ∷ []) (known x)
+        ∙ (sym (tags_of-push x (links.given x) moment sign)
+        ∙ ap (tags_of x) (sym (here-same links.given x (links.given x ++ At moment sign ∷ []))))))
+
+    other : y ≢ x → filter (is_tag_of y) (play.taken ++ next_tag links x moment sign ∷ []) ≡ tags_of y ((gives links x moment sign).given y)
+    other apart = filter-one-push y play.taken (next_tag links x moment sign) false (differ y x apart)
+        ∙ (append-nil (filter (is_tag_of y) play.taken) ∙ (known y
+        ∙ ap (tags_of y) (sym (elsewhere links.given x (links.given x ++ At moment sign ∷ []) y apart))))
+
+pub next-place : (links : Links) (x moment : ℕ) (sign : Sign) →
+    (under_of x ((gives links x moment sign).given x)).place ≡ (under_of x (links.given x)).place + 1
+next-place links x moment sign = ap (λ (puts : List Put). (under_of x puts).place)
+    (here-same links.given x (links.given x ++ At moment sign ∷ [])) ∙ place-push x (links.given x) moment sign
+
+pub other-place : (links : Links) (x moment : ℕ) (sign : Sign) (y : ℕ) → y ≢ x →
+    (under_of y ((gives links x moment sign).given y)).place ≡ (under_of y (links.given y)).place
+other-place links x moment sign y apart = ap (λ (puts : List Put). (under_of y puts).place)
+    (elsewhere links.given x (links.given x ++ At moment sign ∷ []) y apart)
+
+given-open : (m : Merger) (links : Links) (x moment : ℕ) (mark : Mark) (passes : Bool) → x < length m.links →
+    suits_sign (link_of m x).in_sysex (sign_of mark) ≡ true →
+    ((y : ℕ) → (link_of m y).in_sysex ≡ is_open (signs_in (links.given y))) →
+    (y : ℕ) → (link_at (slice_set m.links x (taken (link_of m x) passes moment mark)) y).in_sysex
+    ≡ is_open (signs_in ((gives links x moment (sign_of mark)).given y))
+given-open m links x moment mark passes below fit known =
+    at_place (λ y (l : Link). l.in_sysex ≡ is_open (signs_in ((gives links x moment (sign_of mark)).given y)))
+    m.links x (taken (link_of m x) passes moment mark) below here there
+  where
+    here : opens (link_of m x).in_sysex mark ≡ is_open (signs_in ((gives links x moment (sign_of mark)).given x))
+    here = suits-opens (link_of m x).in_sysex mark fit
+        ∙ (ap (λ b. open_after b (sign_of mark)) (known x)
+        ∙ (sym (is_open-push (signs_in (links.given x)) (sign_of mark))
+        ∙ ap is_open (sym (ap signs_in (here-same links.given x (links.given x ++ At moment (sign_of mark) ∷ []))
+        ∙ signs-push (links.given x) moment (sign_of mark)))))
+
+    there : (y : ℕ) → y ≢ x → (link_of m y).in_sysex ≡ is_open (signs_in ((gives links x moment (sign_of mark)).given y))
+    there y apart = known y ∙ ap (λ puts. is_open (signs_in puts))
+        (sym (elsewhere links.given x (links.given x ++ At moment (sign_of mark) ∷ []) y apart))
+
+given-over : (links : Links) (x moment : ℕ) (sign : Sign) (k : Key) → links.present x ≡ Some k →
+    ((y : ℕ) → links.present y ≡ None → is_open (signs_in (links.given y)) ≡ false) →
+    (y : ℕ) → links.present y ≡ None → is_open (signs_in ((gives links x moment sign).given y)) ≡ false
+given-over links x moment sign k here known y none = ⊎_elim
+    (λ (e : y ≡ x). absurd (none≢some k (sym none ∙ (ap links.present e ∙ here))))
+    (λ (apart : y ≢ x). ap (λ puts. is_open (signs_in puts))
+    (elsewhere links.given x (links.given x ++ At moment sign ∷ []) y apart) ∙ known y none)
+    (same_or_not y x)
+
+offer-in-time : (m : Merger) (links : Links) (x moment : ℕ) (mark : Mark) (passes : Bool) → x < length m.links →
+    links.present x ≡ Some (key_at moment x) →
+    ((y : ℕ) (k : Key) → links.present y ≡ Some k → ((link_of m y).last ≤ k.moment) × (k.link ≡ y)) →
+    (y : ℕ) (k : Key) → links.present y ≡ Some k →
+    ((link_at (slice_set m.links x (taken (link_of m x) passes moment mark)) y).last ≤ k.moment) × (k.link ≡ y)
+offer-in-time m links x moment mark passes below here known =
+    at_place (λ y (l : Link). (k : Key) → links.present y ≡ Some k → (l.last ≤ k.moment) × (k.link ≡ y))
+    m.links x (taken (link_of m x) passes moment mark) below
+    (λ k e. let same : moment ≡ k.moment = ap (λ (c : Key). c.moment) (some_same (sym here ∙ e)) in
+    (omega (arith, same), (known x k e).1))
+    (λ y apart. known y)
+
+offer-full : (m : Merger) (links : Links) (x moment : ℕ) (mark : Mark) (passes : Bool) → x < length m.links →
+    links.stalled x ≡ false → ((y : ℕ) → links.stalled y ≡ true → 1024 ≤ length (link_of m y).held) →
+    (y : ℕ) → links.stalled y ≡ true →
+    1024 ≤ length (link_at (slice_set m.links x (taken (link_of m x) passes moment mark)) y).held
+offer-full m links x moment mark passes below free known =
+    at_place (λ y (l : Link). links.stalled y ≡ true → 1024 ≤ length l.held)
+    m.links x (taken (link_of m x) passes moment mark) below
+    (λ e. absurd (true≢false (sym e ∙ free))) (λ y apart. known y)
+
+-- The mark is to pass.
+course-accepts : (s : Setup) (m : Merger) (links : Links) (K : Key) (play : Play) (x moment : ℕ) (mark : Mark) →
+    Course s m links K play → MayOffer s m links K x moment mark → passes_now m x mark ≡ true →
+    IsReached (start_of s) (offer_by m x moment mark true) →
+    Course s (offer_by m x moment mark true) (gives links x moment (sign_of mark)) K
+    (takes play true (next_tag links x moment (sign_of mark)))
+course-accepts s m links K play x moment mark course may passes reached = record {
+  reached = reached;
+  order = order-accepts s.routes m play links.present links.stalled K t mark course.order idle below refl refl free;
+  realtimes = realtimes_routed-accepts s.routes m play t mark course.realtimes below;
+  places = places-accepts play (λ y. (under_of y (links.given y)).place)
+      (λ y. (under_of y ((gives links x moment (sign_of mark)).given y)).place) t course.places
+      (next-place links x moment (sign_of mark)) (other-place links x moment (sign_of mark));
+  outs = subst (λ (f : ℕ → Bool). OutsKnown (goes_out s) f (tags_passed play)) (sym opens_same) course.outs;
+  held_tags = course.held_tags;
+  passed_tags = course.passed_tags;
+  taken = given-tags play links x moment (sign_of mark) course.taken;
+  sorted = at_place (λ y (l : Link). AreSorted l.held l.last) m.links x (taken (link_of m x) true moment mark) below
+      (sorted-later (link_of m x).held (link_of m x).last moment (course.sorted x) later) (λ y apart. course.sorted y);
+  full = offer-full m links x moment mark true below may.free course.full;
+  sysex = given-open m links x moment mark true below fit course.sysex;
+  over = given-over links x moment (sign_of mark) (key_at moment x) may.here course.over;
+  in_time = offer-in-time m links x moment mark true below may.here course.in_time;
+  offering = λ u e. subst (Offering s (offer_by m x moment mark true) (gives links x moment (sign_of mark)) K
+      (takes play true (next_tag links x moment (sign_of mark)))) (some_same e) offering;
+}
+  where
+    t : Tag
+    t = next_tag links x moment (sign_of mark)
+
+    fits : Fits m
+    fits = reached-fits s m course.reached
+
+    settled : IsSettled m
+    settled = reached-settled s m course.reached may.drained
+
+    below : x < length m.links
+    below = subst (λ n. x < n) (sym (reached-sources s m course.reached)) may.source
+
+    fit : suits_sign (link_of m x).in_sysex (sign_of mark) ≡ true
+    fit = ap (λ b. suits_sign b (sign_of mark)) (course.sysex x) ∙ may.suits
+
+    later : (link_of m x).last ≤ moment
+    later = (course.in_time x (key_at moment x) may.here).0
+
+    none_offered : m.offered ≡ None
+    none_offered = (fits.quiet may.drained).0
+
+    idle : play.offered ≡ None
+    idle = no-offer m.offered play.offered course.order.plays.offered none_offered
+
+    why : (is_realtime_mark mark ≡ true) ⊎ Passes m.links x mark (link_of m x)
+    why = passes-why m x mark passes
+
+    calm_empty : is_realtime_mark mark ≡ false → (link_of m x).held ≡ []
+    calm_empty calm = ⊎_elim (λ (rt : is_realtime_mark mark ≡ true). absurd (true≢false (sym rt ∙ calm)))
+        (λ (p : Passes m.links x mark (link_of m x)). p.nothing) (passes-why m x mark passes)
+
+    free : is_realtime_sign (sign_of mark) ≡ false → play.held x ≡ []
+    free calm = no-tags x (link_of m x).held (play.held x) (course.order.plays.held x)
+        (calm_empty (sym (mark-realtime mark) ∙ calm))
+
+    opens_same : open_of (offer_by m x moment mark true) ≡ open_of m
+    opens_same = open_kept m x (taken (link_of m x) true moment mark) below refl
+
+    keys_same : keys_of (offer_by m x moment mark true) ≡ keys_of m
+    keys_same = keys_kept m x (taken (link_of m x) true moment mark) below refl
+
+    held_same : (link_of (offer_by m x moment mark true) x).held ≡ (link_of m x).held
+    held_same = ap (λ (l : Link). l.held) (link_at-set_same m.links x (taken (link_of m x) true moment mark) below)
+
+    opening : (mk : Mark) → (is_realtime_mark mk ≡ false → (link_of m x).held ≡ []) → opens (link_of m x).is_open mk ≡ true → (link_of m x).held ≡ []
+    opening (Short z) empty e = settled.owners x below e
+    opening (Rt z) empty e = settled.owners x below e
+    opening Open empty e = empty refl
+    opening (Byte z) empty e = settled.owners x below e
+    opening End empty e = absurd (true≢false (sym e))
+    opening Abort empty e = absurd (true≢false (sym e))
+
+    inside : (link_of m x).held ≡ [] → suits_sign (link_of m x).is_open (sign_of mark) ≡ true
+    inside none = ap (λ b. suits_sign b (sign_of mark)) (nothing-held m x fits none_offered none) ∙ fit
+
+    realtime_goes : (sign : Sign) (b : ℕ → Bool) (u : Tag) → u.sign ≡ sign → is_realtime_sign sign ≡ true → MayGo (goes_out s) b u
+    realtime_goes (ShortSign y z w) b u is e = absurd (true≢false (sym e))
+    realtime_goes (RtSign y) b u is e = record {
+      outside = λ f. absurd (true≢false (sym (ap (suits_sign true) is) ∙ f));
+      inside = λ f. absurd (true≢false (sym (ap (suits_sign false) is) ∙ f));
+    }
+    realtime_goes OpenSign b u is e = absurd (true≢false (sym e))
+    realtime_goes (ByteSign y) b u is e = absurd (true≢false (sym e))
+    realtime_goes EndSign b u is e = absurd (true≢false (sym e))
+    realtime_goes AbortSign b u is e = absurd (true≢false (sym e))
+
+    may_go : MayGo (goes_out s) (open_of m) t
+    may_go = ⊎_elim
+        (λ (rt : is_realtime_mark mark ≡ true). realtime_goes (sign_of mark) (open_of m) t refl (mark-realtime mark ∙ rt))
+        (λ (p : Passes m.links x mark (link_of m x)).
+        subst (λ (g : ℕ → ℕ → Bool). MayGo g (open_of m) t) (λ i o y. reached-goes s m course.reached o y i)
+        (may-go m t mark refl p.may (inside p.nothing)))
+        (passes-why m x mark passes)
+
+    waits : is_realtime_sign (sign_of mark) ≡ true → play.held x ≢ [] →
+        HasOwner (sharing s.routes) (stands play (open_of m) (keys_of m)) x Anyone
+    waits rt some =
+        let w = owner-drained (sharing s.routes) (run_of m links.present links.stalled K (newest play)) x
+        (course-drained s m links K play course may.drained)
+        (λ none. some (no-tags x (link_of m x).held (play.held x) (course.order.plays.held x) (no-keys x (link_of m x).held none))) in
+        (w.0, (w.1.0, w.1.1, w.1.2, w.1.3, tt))
+      where
+        no-keys : (y : ℕ) (hs : List Held) → map (key_of y) hs ≡ [] → hs ≡ []
+        no-keys y [] e = refl
+        no-keys y (h ∷ hs) e = absurd (no_cons e)
+          where
+            no_cons : map (key_of y) (h ∷ hs) ≡ [] → ⊥
+            no_cons e = cc
+
+    offering : Offering s (offer_by m x moment mark true) (gives links x moment (sign_of mark)) K
+        (takes play true (next_tag links x moment (sign_of mark))) (next_tag links x moment (sign_of mark))
+    offering = record {
+      is_tag = record { under = under_of x (links.given x); is = refl; link = refl };
+      free = may.free;
+      here = may.here;
+      within = may.within;
+      place = let more = next-place links x moment (sign_of mark) in omega (arith, more);
+      fresh = course.places.held x;
+      latest = latest-of play (λ y. (under_of y (links.given y)).place) (next_tag links x moment (sign_of mark)) course.places refl;
+      opening = λ e. held_same ∙ opening mark calm_empty
+          (sym (mark-opens (link_of m x).is_open mark) ∙ (ap (λ (f : ℕ → Bool). opens_sign (f x) (sign_of mark)) (sym opens_same) ∙ e));
+      may_go = subst (λ (f : ℕ → Bool). MayGo (goes_out s) f t) (sym opens_same) may_go;
+      waits = λ rt some. subst (λ (f : ℕ → Bool). HasOwner (sharing s.routes) (stands play f (keys_of (offer_by m x moment mark true))) x Anyone) (sym opens_same)
+          (subst (λ (f : ℕ → List Key). HasOwner (sharing s.routes) (stands play (open_of m) f) x Anyone) (sym keys_same) (waits rt some));
+    }
+
+-- The mark is held.
+course-holds : (s : Setup) (m : Merger) (links : Links) (K : Key) (play : Play) (x moment : ℕ) (mark : Mark) →
+    Course s m links K play → MayOffer s m links K x moment mark → passes_now m x mark ≡ false →
+    IsReached (start_of s) (offer_by m x moment mark false) →
+    Course s (offer_by m x moment mark false) (gives links x moment (sign_of mark)) K
+    (takes play false (next_tag links x moment (sign_of mark)))
+course-holds s m links K play x moment mark course may waits reached = record {
+  reached = reached;
+  order = order-takes s.routes m play links.present links.stalled K t mark course.order none_offered idle below refl refl
+      may.free may.here may.within closed calm;
+  realtimes = realtimes_routed-takes s.routes m play t mark course.realtimes below closed
+      (latest-of play (λ y. (under_of y (links.given y)).place) t course.places refl);
+  places = places-takes play (λ y. (under_of y (links.given y)).place)
+      (λ y. (under_of y ((gives links x moment (sign_of mark)).given y)).place) t course.places refl
+      (next-place links x moment (sign_of mark)) (other-place links x moment (sign_of mark));
+  outs = subst (λ (f : ℕ → Bool). OutsKnown (goes_out s) f (tags_passed play))
+      (sym (open_kept m x (taken (link_of m x) false moment mark) below refl)) course.outs;
+  held_tags = λ y. tags_at y;
+  passed_tags = course.passed_tags;
+  taken = given-tags play links x moment (sign_of mark) course.taken;
+  sorted = at_place (λ y (l : Link). AreSorted l.held l.last) m.links x (taken (link_of m x) false moment mark) below
+      (sorted-push (link_of m x).held (link_of m x).last (record { arrival = moment; mark = mark }) (course.sorted x) later)
+      (λ y apart. course.sorted y);
+  full = offer-full m links x moment mark false below may.free course.full;
+  sysex = given-open m links x moment mark false below fit course.sysex;
+  over = given-over links x moment (sign_of mark) (key_at moment x) may.here course.over;
+  in_time = offer-in-time m links x moment mark false below may.here course.in_time;
+  offering = λ u e. absurd (none≢some u e);
+}
+  where
+    t : Tag
+    t = next_tag links x moment (sign_of mark)
+
+    fits : Fits m
+    fits = reached-fits s m course.reached
+
+    below : x < length m.links
+    below = subst (λ n. x < n) (sym (reached-sources s m course.reached)) may.source
+
+    fit : suits_sign (link_of m x).in_sysex (sign_of mark) ≡ true
+    fit = ap (λ b. suits_sign b (sign_of mark)) (course.sysex x) ∙ may.suits
+
+    later : (link_of m x).last ≤ moment
+    later = (course.in_time x (key_at moment x) may.here).0
+
+    none_offered : m.offered ≡ None
+    none_offered = (fits.quiet may.drained).0
+
+    idle : play.offered ≡ None
+    idle = no-offer m.offered play.offered course.order.plays.offered none_offered
+
+    calm : is_realtime_sign (sign_of mark) ≡ false
+    calm = mark-realtime mark ∙ waits-why m x mark waits
+
+    closed : (link_of m x).is_open ≡ false
+    closed = held-closed m x mark fits (reached-settled s m course.reached may.drained) none_offered below fit waits
+
+    tags_at : (y : ℕ) → AreTags (with_held play.held x (play.held x ++ t ∷ []) y)
+    tags_at y = ⊎_elim
+        (λ (e : y ≡ x). subst (λ z. AreTags (with_held play.held x (play.held x ++ t ∷ []) z)) (sym e)
+        (subst AreTags (sym (with_held-same play.held x (play.held x ++ t ∷ [])))
+        (AreTags-push (play.held x) t (course.held_tags x) (record { under = under_of x (links.given x); is = refl; link = refl }))))
+        (λ (apart : y ≢ x). subst AreTags (sym (with_held-other play.held x y (play.held x ++ t ∷ []) apart)) (course.held_tags y))
+        (same_or_not y x)
+
+-- A mark of a link was taken.
+pub course-takes : (s : Setup) (m : Merger) (links : Links) (K : Key) (play : Play) (x moment : ℕ) (mark : Mark) →
+    Course s m links K play → MayOffer s m links K x moment mark →
+    Course s (offered_in m x moment mark) (gives links x moment (sign_of mark)) K
+    (takes play (passes_now m x mark) (next_tag links x moment (sign_of mark)))
+course-takes s m links K play x moment mark course may = by_test (passes_now m x mark) refl reached
+  where
+    below : x < length m.links
+    below = subst (λ n. x < n) (sym (reached-sources s m course.reached)) may.source
+
+    reached : IsReached (start_of s) (offer_by m x moment mark (passes_now m x mark))
+    reached = reached-offer (start_of s) m x moment mark course.reached (offer-may m x moment mark below
+        (ap (λ b. suits_sign b (sign_of mark)) (course.sysex x) ∙ may.suits)
+        (course.in_time x (key_at moment x) may.here).0 may.drained may.room)
+
+    by_test : (passes : Bool) → passes_now m x mark ≡ passes → IsReached (start_of s) (offer_by m x moment mark passes) →
+        Course s (offer_by m x moment mark passes) (gives links x moment (sign_of mark)) K
+        (takes play passes (next_tag links x moment (sign_of mark)))
+    by_test true e got = course-accepts s m links K play x moment mark course may e got
+    by_test false e got = course-holds s m links K play x moment mark course may e got

@@ -1,0 +1,14 @@
+pub mod Lines
+pub mod Report
+pub mod Merged
+pub mod Orderly
+pub mod Tags
+pub mod Run
+pub mod Routed
+pub mod Order
+pub mod Unbroken
+pub mod Realtimes
+pub mod Unstalled
+pub mod Places
+pub mod Heard
+pub mod Course
