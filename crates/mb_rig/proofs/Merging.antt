@@ -19,3 +19,4 @@ pub mod Reached
 pub mod Given
 pub mod CourseMarks
 pub mod CourseTakes
+pub mod CoursePasses

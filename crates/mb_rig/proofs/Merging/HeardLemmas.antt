@@ -116,31 +116,42 @@ realtimes_with n u t other rest item now fits at is follows =
     let l = one_line u t other rest fits at in
     follows ∙ sym (ap (realtimes_of n) l.1 ∙ realtimes_step n l.0 (Ends item) rest (l.2 ∙ is))
 
-timed_at : (unders : ℕ → Under) (n source place : ℕ) (key : Key) (m : Sign) (line : Option Line) (ms : List Sign) (rest : List Line) →
-    LineFitsData (unders source) (tag source place key m line) → ((k : ℕ) → realtimes_from k ms ≡ realtimes_of k rest) →
-    realtimes_from n (m ∷ ms) ≡ realtimes_of n (lines_of_tag line ++ rest)
-timed_at unders n source place key (ShortSign s a b) line ms rest fits ih =
-    realtimes_with n (unders source) (tag source place key (ShortSign s a b) line) _ rest (Message s a b) (realtimes_from (suc n) ms) fits refl refl (ih (suc n) ∙ ap (λ k. realtimes_of k rest) (more n))
+-- whether an out has an owner
+abbrev pub is_taken : Option ℕ → Bool
+is_taken None = false
+is_taken (Some source) = true
+
+timed_at : (unders : ℕ → Under) (o : Option ℕ) (n source place : ℕ) (key : Key) (m : Sign) (line : Option Line) (ms : List Sign) (rest : List Line) →
+    LineFitsData (unders source) (tag source place key m line) → MayFollow o source m →
+    ((k : ℕ) → realtimes_from (is_taken (owner_behind o source m)) k ms ≡ realtimes_of k rest) →
+    realtimes_from (is_taken o) n (m ∷ ms) ≡ realtimes_of n (lines_of_tag line ++ rest)
+timed_at unders o n source place key (ShortSign s a b) line ms rest fits may ih =
+    realtimes_with n (unders source) (tag source place key (ShortSign s a b) line) _ rest (Message s a b) (realtimes_from (is_taken o) (suc n) ms) fits refl refl (ih (suc n) ∙ ap (λ k. realtimes_of k rest) (more n))
   where
     more : (n : ℕ) → suc n ≡ n + 1
     more n = omega arith
-timed_at unders n source place key (RtSign b) line ms rest fits ih =
+timed_at unders o n source place key (RtSign b) line ms rest fits may ih =
     let l = one_line (unders source) (tag source place key (RtSign b) line) _ rest fits refl in
     ap (λ xs. (record { byte = b; after = n }) ∷ xs) (ih n) ∙ sym (ap (realtimes_of n) l.1 ∙ realtimes_step n l.0 (Realtime b) rest l.2)
-timed_at unders n source place key OpenSign line ms rest fits ih = ih n ∙ ap (realtimes_of n) (sym (no_line (unders source) (tag source place key OpenSign line) rest fits refl))
-timed_at unders n source place key (ByteSign b) line ms rest fits ih = ih n ∙ ap (realtimes_of n) (sym (no_line (unders source) (tag source place key (ByteSign b) line) rest fits refl))
-timed_at unders n source place key EndSign line ms rest fits ih =
-    realtimes_with n (unders source) (tag source place key EndSign line) _ rest (Syx (unders source).ds) (realtimes_from (suc n) ms) fits refl refl (ih (suc n) ∙ ap (λ k. realtimes_of k rest) (more n))
+timed_at unders o n source place key OpenSign line ms rest fits may ih =
+    ih n ∙ ap (realtimes_of n) (sym (no_line (unders source) (tag source place key OpenSign line) rest fits refl))
+timed_at unders o n source place key (ByteSign b) line ms rest fits may ih =
+    ih n ∙ ap (realtimes_of n) (sym (no_line (unders source) (tag source place key (ByteSign b) line) rest fits refl))
+timed_at unders o n source place key EndSign line ms rest fits may ih =
+    ap (λ x. realtimes_from (is_taken x) n (EndSign ∷ ms)) may
+    ∙ realtimes_with n (unders source) (tag source place key EndSign line) _ rest (Syx (unders source).ds) (realtimes_from false (suc n) ms) fits refl refl (ih (suc n) ∙ ap (λ k. realtimes_of k rest) (more n))
   where
     more : (n : ℕ) → suc n ≡ n + 1
     more n = omega arith
-timed_at unders n source place key AbortSign line ms rest fits ih =
-    realtimes_with n (unders source) (tag source place key AbortSign line) _ rest (Broken (unders source).ds) (realtimes_from n ms) fits refl refl (ih n ∙ ap (λ k. realtimes_of k rest) (same n))
+timed_at unders o n source place key AbortSign line ms rest fits may ih =
+    realtimes_with n (unders source) (tag source place key AbortSign line) _ rest (Broken (unders source).ds) (realtimes_from false n ms) fits refl refl (ih n ∙ ap (λ k. realtimes_of k rest) (same n))
   where
     same : (n : ℕ) → n ≡ n + 0
     same n = omega arith
 
-pub realtimes-heard : (unders : ℕ → Under) (n : ℕ) (ts : List Tag) → LinesFit unders ts → realtimes_from n (signs_heard ts) ≡ realtimes_of n (lines_heard ts)
-realtimes-heard unders n [] fits = refl
-realtimes-heard unders n (t ∷ ts) fits =
-    timed_at unders n t.source t.place t.key t.sign t.line (signs_heard ts) (lines_heard ts) fits.0 (λ k. realtimes-heard (unders_after unders t) k ts fits.1)
+pub realtimes-heard : (unders : ℕ → Under) (o : Option ℕ) (n : ℕ) (ts : List Tag) → LinesFit unders ts → Follows o ts →
+    realtimes_from (is_taken o) n (signs_heard ts) ≡ realtimes_of n (lines_heard ts)
+realtimes-heard unders o n [] fits follows = refl
+realtimes-heard unders o n (t ∷ ts) fits follows =
+    timed_at unders o n t.source t.place t.key t.sign t.line (signs_heard ts) (lines_heard ts) fits.0 follows.0
+    (λ k. realtimes-heard (unders_after unders t) (owner_behind o t.source t.sign) k ts fits.1 follows.1)

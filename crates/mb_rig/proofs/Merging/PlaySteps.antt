@@ -124,7 +124,7 @@ filter-one f t = by_test (f t) refl
 filter-push : (f : Tag → Bool) (ts : List Tag) (t : Tag) → filter f (ts ++ t ∷ []) ≡ filter f ts ++ kept (f t) t
 filter-push f ts t = filter-append f ts (t ∷ []) ∙ ap (λ us. filter f ts ++ us) (filter-one f t)
 
-passed-push : (p : Play) (t : Tag) (moment : ℕ) → map (λ (x : PassedTag). x.tag) (p.passed ++ (record { tag = t; moment = moment }) ∷ []) ≡ tags_passed p ++ t ∷ []
+pub passed-push : (p : Play) (t : Tag) (moment : ℕ) → map (λ (x : PassedTag). x.tag) (p.passed ++ (record { tag = t; moment = moment }) ∷ []) ≡ tags_passed p ++ t ∷ []
 passed-push p t moment = map-append (λ (x : PassedTag). x.tag) p.passed ((record { tag = t; moment = moment }) ∷ [])
 
 -- whether a tag keeps its turn for a source

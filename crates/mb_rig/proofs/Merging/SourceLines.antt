@@ -1,15 +1,18 @@
 -- At the end of a run each source's lines stand in the report, in its order.
-use Rattle.std.proofs.Common.{◌≡◌, ℕ, ◌+◌, Bool, true, false, Option, Some, None, List, [], ◌∷◌, ◌++◌, map, filter, refl, ap, sym, ◌∙◌, arith, append-nil}
+use Rattle.std.proofs.Common.{◌≡◌, ℕ, ◌+◌, Bool, true, false, Option, Some, None, List, [], ◌∷◌, ◌++◌, map, filter, refl, ap, sym, ◌∙◌, arith, append-nil, append_assoc}
 use Rattle.std.specs.Prelude.{not, ◌&&◌, ◌==◌, if◌then◌else◌}
 use Rattle.std.specs.List.{flat_map}
+use Rattle.std.proofs.lemmas.List.Concat.{flat_map-append}
+use Rattle.std.proofs.lemmas.List.Elements.{filter-append}
 use Rattle.mb_message.specs.Signs.{Sign, ShortSign, RtSign, OpenSign, ByteSign, EndSign, AbortSign}
 use Rattle.mb_merge.specs.Calls.{one}
-use Rattle.mb_carrier.specs.declared.spec.Spec.{Spec}
+use Rattle.mb_message.specs.Front.{IsFront}
+use Rattle.mb_stream.specs.Puts.{Put, At, Flush}
 use Rattle.mb_stream.specs.Denotation.{Message, Syx, Broken}
-use Rattle.mb_rig.specs.Merging.Lines.{Key, Line, Event, Ends, Realtime, Gathered, is_realtime, lines_from, lines_of, keyed, no_key}
+use Rattle.mb_rig.specs.Merging.Lines.{Key, Line, Event, Ends, Realtime, is_realtime, lines_from, lines_of, keyed_marks, key_at, no_key}
 use Rattle.mb_rig.specs.Merging.Report.{Passing, is_of, lines_in}
-use Rattle.mb_rig.specs.Merging.Merged.{IsOfSource, in_turn}
-use Rattle.mb_rig.specs.Merging.Tags.{Tag, PassedTag, Play, InTurn, Under, tags_from, tags_of, nothing_under, tag_at, line_at, under_after, tag_in_turn, tag_at_once, tags_passed, is_realtime_sign, line_of, report_of}
+use Rattle.mb_rig.specs.Merging.Merged.{IsOfSource, IsFrontOfSource, in_turn, is_at_once}
+use Rattle.mb_rig.specs.Merging.Tags.{Tag, PassedTag, Play, InTurn, Under, tags_from, tags_of, nothing_under, tag_at, line_at, under_after, under_behind, tag_in_turn, tag_at_once, tags_passed, is_realtime_sign, line_of, report_of}
 use Rattle.mb_rig.proofs.Merging.HeardLemmas.{lines_heard}
 use Rattle.mb_rig.proofs.Merging.Lateness.{none≢some, some_same}
 
@@ -31,8 +34,8 @@ lines-tags source place begin ds ((key, AbortSign) ∷ ms) =
     let l : Line = record { source = source; place = place; event = Ends (Broken ds); key = key; begin = begin } in
     ap (λ xs. l ∷ xs) (lines-tags source (place + 1) begin [] ms)
 
-pub source-lines : (s : Spec) (source track : ℕ) (tape : List Gathered) → lines_of s source track tape ≡ lines_heard (tags_of s source track tape)
-source-lines s source track tape = lines-tags source 0 (no_key source) [] (keyed s source track (no_key source) [] tape)
+pub source-lines : (source : ℕ) (puts : List Put) → lines_of source puts ≡ lines_heard (tags_of source puts)
+source-lines source puts = lines-tags source 0 (no_key source) [] (keyed_marks source puts)
 
 -- a tag's line is its source's, and real-time where its mark is
 abbrev pub IsOwnLine : Tag → Type 0
@@ -156,21 +159,90 @@ line_kind source u (RtSign b) key l e = ap (λ (x : Line). is_realtime x.event) 
 line_kind source u EndSign key l e = ap (λ (x : Line). is_realtime x.event) (sym (some_same e))
 line_kind source u AbortSign key l e = ap (λ (x : Line). is_realtime x.event) (sym (some_same e))
 
--- Merged, first part: where nothing of a source waits any more, and all of its tape was taken.
-pub of-source : (p : Play) (x : ℕ) (s : Spec) (track : ℕ) (tape : List Gathered) → InTurn p → p.offered ≡ None → p.held x ≡ [] →
-    filter (λ (t : Tag). t.source == x) p.taken ≡ tags_of s x track tape → AreOwnLines (tags_passed p) → IsOfSource (lines_of s x track tape) x (report_of p.passed)
-of-source p x s track tape turns idle none all own = record {
-  turns = turn-lines x p.passed own
-      ∙ (ap lines_heard (sym (append-nil (filter (tag_in_turn x) (tags_passed p))) ∙ (ap (λ us. filter (tag_in_turn x) (tags_passed p) ++ us) (sym waiting) ∙ sym (turns.turns x)))
-      ∙ (ap lines_heard (filter-two x (λ m. not (is_realtime_sign m)) p.taken ∙ ap (filter (λ (t : Tag). not (is_realtime_sign t.sign))) all)
-      ∙ (sym (kind-heard x (λ e. not (is_realtime e)) (λ m. not (is_realtime_sign m)) (nothing_under x) (keyed s x track (no_key x) [] tape) (λ place begin ds m key l e. ap not (line_kind x (record { place = place; begin = begin; ds = ds }) m key l e)))
-      ∙ ap (filter in_turn) (sym (source-lines s x track tape)))));
-  rts = once-lines x p.passed own
-      ∙ (ap lines_heard (sym (append-nil (filter (tag_at_once x) (tags_passed p))) ∙ (ap (λ (o : Option Tag). filter (tag_at_once x) (tags_passed p) ++ filter (tag_at_once x) (one o)) (sym idle) ∙ sym (turns.realtimes x)))
-      ∙ (ap lines_heard (filter-two x is_realtime_sign p.taken ∙ ap (filter (λ (t : Tag). is_realtime_sign t.sign)) all)
-      ∙ (sym (kind-heard x is_realtime is_realtime_sign (nothing_under x) (keyed s x track (no_key x) [] tape) (λ place begin ds m key l e. line_kind x (record { place = place; begin = begin; ds = ds }) m key l e))
-      ∙ ap (filter (λ (l : Line). is_realtime l.event)) (sym (source-lines s x track tape)))));
+heard-append : (ts us : List Tag) → lines_heard (ts ++ us) ≡ lines_heard ts ++ lines_heard us
+heard-append ts us = flat_map-append (λ (t : Tag). elim t.line [ None ↦ [] | Some l ↦ l ∷ [] ]) ts us
+
+-- what has passed of a source's turns, of all that was taken of it
+turns-heard : (p : Play) (x : ℕ) (puts : List Put) → InTurn p → p.offered ≡ None →
+    filter (λ (t : Tag). t.source == x) p.taken ≡ tags_of x puts → AreOwnLines (tags_passed p) →
+    filter in_turn (lines_of x puts)
+    ≡ filter in_turn (lines_in x (report_of p.passed)) ++ lines_heard (p.held x)
+turns-heard p x puts turns idle all own =
+    ap (filter in_turn) (source-lines x puts)
+    ∙ (kind-heard x (λ e. not (is_realtime e)) (λ m. not (is_realtime_sign m)) (nothing_under x) (keyed_marks x puts)
+    (λ place begin ds m key l e. ap not (line_kind x (record { place = place; begin = begin; ds = ds }) m key l e))
+    ∙ (ap lines_heard (ap (filter (λ (t : Tag). not (is_realtime_sign t.sign))) (sym all)
+    ∙ (sym (filter-two x (λ m. not (is_realtime_sign m)) p.taken) ∙ (turns.turns x
+    ∙ ap (λ (o : Option Tag). filter (tag_in_turn x) (tags_passed p) ++ (filter (tag_in_turn x) (one o) ++ p.held x)) idle)))
+    ∙ (heard-append (filter (tag_in_turn x) (tags_passed p)) (p.held x)
+    ∙ ap (λ ls. ls ++ lines_heard (p.held x)) (sym (turn-lines x p.passed own)))))
+
+-- and of its real-time marks, where none is just offered: all
+once-heard : (p : Play) (x : ℕ) (puts : List Put) → InTurn p → p.offered ≡ None →
+    filter (λ (t : Tag). t.source == x) p.taken ≡ tags_of x puts → AreOwnLines (tags_passed p) →
+    filter is_at_once (lines_of x puts) ≡ filter is_at_once (lines_in x (report_of p.passed))
+once-heard p x puts turns idle all own =
+    ap (filter is_at_once) (source-lines x puts)
+    ∙ (kind-heard x is_realtime is_realtime_sign (nothing_under x) (keyed_marks x puts)
+    (λ place begin ds m key l e. line_kind x (record { place = place; begin = begin; ds = ds }) m key l e)
+    ∙ (ap lines_heard (ap (filter (λ (t : Tag). is_realtime_sign t.sign)) (sym all)
+    ∙ (sym (filter-two x is_realtime_sign p.taken) ∙ (turns.realtimes x
+    ∙ (ap (λ (o : Option Tag). filter (tag_at_once x) (tags_passed p) ++ filter (tag_at_once x) (one o)) idle
+    ∙ append-nil (filter (tag_at_once x) (tags_passed p))))))
+    ∙ sym (once-lines x p.passed own)))
+
+-- Merged, first part: where nothing of a source waits, and all of its marks were taken.
+pub of-source : (p : Play) (x : ℕ) (puts : List Put) → InTurn p → p.offered ≡ None → p.held x ≡ [] →
+    filter (λ (t : Tag). t.source == x) p.taken ≡ tags_of x puts → AreOwnLines (tags_passed p) →
+    IsOfSource puts x (report_of p.passed)
+of-source p x puts turns idle none all own = record {
+  turns = sym (turns-heard p x puts turns idle all own
+      ∙ (ap (λ ts. filter in_turn (lines_in x (report_of p.passed)) ++ lines_heard ts) none
+      ∙ append-nil (filter in_turn (lines_in x (report_of p.passed)))));
+  realtimes = sym (once-heard p x puts turns idle all own);
 }
-  where
-    waiting : filter (tag_in_turn x) (one p.offered) ++ p.held x ≡ []
-    waiting = ap (λ (o : Option Tag). filter (tag_in_turn x) (one o) ++ p.held x) idle ∙ none
+
+-- the lines of more marks
+tags-append : (source : ℕ) (u : Under) (ms more : List (Key × Sign)) →
+    tags_from source u (ms ++ more) ≡ tags_from source u ms ++ tags_from source (under_behind u ms) more
+tags-append source u [] more = refl
+tags-append source u (m ∷ ms) more =
+    ap (λ ts. tag_at source u m.0 m.1 ∷ ts) (tags-append source (under_after u m.0 m.1) ms more)
+
+keyed-append : (source : ℕ) (puts more : List Put) →
+    keyed_marks source (puts ++ more) ≡ keyed_marks source puts ++ keyed_marks source more
+keyed-append source [] more = refl
+keyed-append source (At n m ∷ puts) more =
+    ap (λ (ms : List (Key × Sign)). (key_at n source, m) ∷ ms) (keyed-append source puts more)
+keyed-append source (Flush ∷ puts) more = keyed-append source puts more
+
+lines-append : (x : ℕ) (puts more : List Put) → (behind : List Line) × (lines_of x (puts ++ more) ≡ lines_of x puts ++ behind)
+lines-append x puts more = (
+  lines_heard (tags_from x (under_behind (nothing_under x) (keyed_marks x puts)) (keyed_marks x more)),
+  source-lines x (puts ++ more)
+      ∙ (ap lines_heard (ap (tags_from x (nothing_under x)) (keyed-append x puts more)
+      ∙ tags-append x (nothing_under x) (keyed_marks x puts) (keyed_marks x more))
+      ∙ (heard-append (tags_of x puts) (tags_from x (under_behind (nothing_under x) (keyed_marks x puts)) (keyed_marks x more))
+      ∙ ap (λ ls. ls ++ lines_heard (tags_from x (under_behind (nothing_under x) (keyed_marks x puts)) (keyed_marks x more)))
+      (sym (source-lines x puts)))),
+)
+
+kind-front : (kind : Line → Bool) (x : ℕ) (puts all : List Put) (passed waits : List Line) → IsFront puts all →
+    filter kind (lines_of x puts) ≡ passed ++ waits → IsFront passed (filter kind (lines_of x all))
+kind-front kind x puts all passed waits front is =
+    let more = lines-append x puts front.0 in
+    (waits ++ filter kind more.0,
+    ap (λ ps. filter kind (lines_of x ps)) front.1 ∙ (ap (filter kind) more.1
+    ∙ (filter-append kind (lines_of x puts) more.0
+    ∙ (ap (λ ls. ls ++ filter kind more.0) is ∙ append_assoc passed waits (filter kind more.0)))))
+
+-- Where a run stopped: what was taken is a front of the source's marks.
+pub front-of-source : (p : Play) (x : ℕ) (puts all : List Put) → InTurn p → p.offered ≡ None → IsFront puts all →
+    filter (λ (t : Tag). t.source == x) p.taken ≡ tags_of x puts → AreOwnLines (tags_passed p) →
+    IsFrontOfSource all x (report_of p.passed)
+front-of-source p x puts all turns idle front taken own = record {
+  turns = kind-front in_turn x puts all (filter in_turn (lines_in x (report_of p.passed))) (lines_heard (p.held x)) front
+      (turns-heard p x puts turns idle taken own);
+  realtimes = kind-front is_at_once x puts all (filter is_at_once (lines_in x (report_of p.passed))) [] front
+      (once-heard p x puts turns idle taken own ∙ sym (append-nil (filter is_at_once (lines_in x (report_of p.passed)))));
+}
