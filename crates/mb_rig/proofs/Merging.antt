@@ -20,3 +20,5 @@ pub mod Given
 pub mod CourseMarks
 pub mod CourseTakes
 pub mod CoursePasses
+pub mod CourseNext
+pub mod CourseSteps

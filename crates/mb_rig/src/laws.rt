@@ -1,36 +1,30 @@
 //! Laws of a run on lists. Each function does nothing; what is proved is its contract.
 
-ghost use Rattle.std.specs.Prelude.{◌≡◌, ◌<◌, ◌∷◌, true, ℕ, List, Some, None, slice_set, length};
+ghost use Rattle.std.specs.Prelude.{◌≡◌, ◌≤◌, false, ℕ, Some, Option, length};
 ghost use Rattle.mb_message.specs.declared.mark.Mark.{Mark};
 ghost use Rattle.mb_message.specs.Signs.{sign_of};
-ghost use Rattle.mb_stream.specs.Puts.{Put};
 ghost use Rattle.mb_merge.specs.Links.{Merger, link_of};
-ghost use Rattle.mb_merge.specs.Passing.{offered_in, passes_now, after_pass, after_head, may_pass};
-ghost use Rattle.mb_merge.specs.declared.router.Passed.{Passed};
-ghost use Rattle.mb_merge.specs.declared.source.Held.{Held};
+ghost use Rattle.mb_merge.specs.Passing.{next_of, offered_in, passes_now};
 ghost use Rattle.mb_rig.specs.RigText.{Setup};
-ghost use Rattle.mb_rig.specs.Merging.Lines.{Key, lines_of, arrival_of};
-ghost use Rattle.mb_rig.specs.Merging.Tags.{Play, Tag, takes, offered_goes, head_goes};
-ghost use Rattle.mb_rig.specs.Merging.Course.{Course, Links, MayOffer, gives, next_tag, IsReached, start_of, freed};
+ghost use Rattle.mb_rig.specs.Merging.Lines.{Key};
+ghost use Rattle.mb_rig.specs.Merging.Tags.{Play, takes};
+ghost use Rattle.mb_rig.specs.Merging.Course.{Course, IsLeastKey, IsNextKey, Links, MayOffer, PassesOn, gives, greater};
+ghost use Rattle.mb_rig.specs.Merging.Course.{next_tag, renews, stalls};
 
 /// Scratch.
 pub fn runs()
+    ensures begins { (s : Setup) (m : Merger) (links : Links) (K : Key) (play : Play) (k : Key) →
+        Course s m links K play → m.draining ≡ false → IsLeastKey links k → Course s m links (greater K k) play }
     ensures takes { (s : Setup) (m : Merger) (links : Links) (K : Key) (play : Play) (x moment : ℕ) (mark : Mark) →
         Course s m links K play → MayOffer s m links K x moment mark →
         Course s (offered_in m x moment mark) (gives links x moment (sign_of mark)) K
         (takes play (passes_now m x mark) (next_tag links x moment (sign_of mark))) }
-    ensures offered { (s : Setup) (m : Merger) (links : Links) (K : Key) (play : Play) (q : Passed) (t : Tag) →
-    Course s m links K play → m.offered ≡ Some q → play.offered ≡ Some t → q.source ≡ t.source →
-    q.arrival ≡ t.key.moment → sign_of q.mark ≡ t.sign →
-    IsReached (start_of s) (record m { links = slice_set m.links q.source (after_pass (link_of m q.source) q.mark); offered = None }) →
-    Course s (record m { links = slice_set m.links q.source (after_pass (link_of m q.source) q.mark); offered = None })
-    links K (offered_goes play t (arrival_of K)) }
-    ensures head { (s : Setup) (m : Merger) (links : Links) (K : Key) (play : Play) (t : Tag) (rest : List Tag) (h : Held) (hs : List Held) →
-    Course s m links K play → m.offered ≡ None → play.offered ≡ None → t.source < length m.links →
-    (link_of m t.source).held ≡ h ∷ hs → play.held t.source ≡ t ∷ rest → h.arrival ≡ t.key.moment →
-    sign_of h.mark ≡ t.sign → may_pass m.links t.source h.mark ≡ true →
-    IsReached (start_of s) (record m { links = slice_set m.links t.source (after_head (link_of m t.source) h.mark) }) →
-    Course s (record m { links = slice_set m.links t.source (after_head (link_of m t.source) h.mark) })
-    (freed links t.source) K (head_goes play t (arrival_of K)) }
-    ensures lines { (x : ℕ) (puts : List Put) → lines_of x puts ≡ lines_of x puts }
+    ensures passes { (s : Setup) (m : Merger) (links : Links) (K : Key) (play : Play) → Course s m links K play →
+        PassesOn s links K play (next_of m).0 (next_of m).1 }
+    ensures renews { (s : Setup) (m : Merger) (links : Links) (K : Key) (play : Play) (x : ℕ) (k : Key)
+        (next : Option Key) → Course s m links K play → m.draining ≡ false → links.stalled x ≡ false →
+        links.present x ≡ Some k → IsNextKey links x k next → Course s m (renews links x next) K play }
+    ensures stalls { (s : Setup) (m : Merger) (links : Links) (K : Key) (play : Play) (x : ℕ) (k : Key) →
+        Course s m links K play → m.draining ≡ false → links.stalled x ≡ false → links.present x ≡ Some k →
+        1024 ≤ length (link_of m x).held → Course s m (stalls links x) K play }
 {}

@@ -26,7 +26,7 @@ use Rattle.mb_rig.specs.Merging.Order.{Order, sharing}
 use Rattle.mb_rig.specs.Merging.Realtimes.{RealtimesFit}
 use Rattle.mb_rig.specs.Merging.Heard.{MayGo, OutsKnown, open_after, opens_sign}
 use Rattle.mb_rig.specs.Merging.Course.{Links, Course, Offering, IsReached, AreSorted, IsNotAfter, at_link, freed, goes_out}
-use Rattle.mb_rig.specs.Merging.Course.{start_of}
+use Rattle.mb_rig.specs.Merging.Course.{AreWithin, start_of}
 use Rattle.mb_rig.proofs.Merging.Lateness.{true≢false, none≢some, some_same, same_or_not, EndsBy}
 use Rattle.mb_rig.proofs.Merging.RouterEvents.{no_owner}
 use Rattle.mb_rig.proofs.Merging.PlaySteps.{passed-push, first_tag, with_held-same, with_held-other}
@@ -35,7 +35,7 @@ use Rattle.mb_rig.proofs.Merging.PlaceSteps.{places-offered, places-head, apart-
 use Rattle.mb_rig.proofs.Merging.RoutedSteps.{open_other, open_same, realtimes_routed-offered, realtimes_routed-head, with_link}
 use Rattle.mb_rig.proofs.Merging.MayGo.{may-go, one_open}
 use Rattle.mb_rig.proofs.Merging.OwnerLemmas.{outs-pass}
-use Rattle.mb_rig.proofs.Merging.Reached.{reached-fits, reached-goes, reached-shares}
+use Rattle.mb_rig.proofs.Merging.Reached.{reached-fits, reached-goes, reached-shares, reached-sources}
 use Rattle.mb_rig.proofs.Merging.Given.{here-same, elsewhere, tag-line, tag-place, tag-ends, AreTags-push, AreTags-drop}
 use Rattle.mb_rig.proofs.Merging.CourseMarks.{mark-realtime, mark-opens, no-tags}
 use Rattle.mb_rig.proofs.Merging.CourseTakes.{at_place}
@@ -95,6 +95,16 @@ tags-behind : (play : Play) (t : Tag) (moment : ℕ) → AreTags (tags_passed pl
     AreTags (map (λ (x : PassedTag). x.tag) (play.passed ++ (record { tag = t; moment = moment }) ∷ []))
 tags-behind play t moment are is = subst AreTags (sym (passed-push play t moment)) (AreTags-push (tags_passed play) t are is)
 
+within-push : (count : ℕ) (ts : List Tag) (t : Tag) → AreWithin count ts → t.source < count → AreWithin count (ts ++ t ∷ [])
+within-push count [] t are is = (is, tt)
+within-push count (u ∷ us) t are is = (are.0, within-push count us t are.1 is)
+
+within-behind : (s : Setup) (m : Merger) (play : Play) (t : Tag) (moment : ℕ) → IsReached (start_of s) m →
+    AreWithin (length s.ins) (tags_passed play) → t.source < length m.links →
+    AreWithin (length s.ins) (map (λ (x : PassedTag). x.tag) (play.passed ++ (record { tag = t; moment = moment }) ∷ []))
+within-behind s m play t moment reached are below = subst (AreWithin (length s.ins)) (sym (passed-push play t moment))
+    (within-push (length s.ins) (tags_passed play) t are (subst (λ n. t.source < n) (reached-sources s m reached) below))
+
 -- the mark just offered, of the tag's source
 pub course-offered : (s : Setup) (m : Merger) (links : Links) (K : Key) (play : Play) (q : Passed) (t : Tag) →
     Course s m links K play → m.offered ≡ Some q → play.offered ≡ Some t → q.source ≡ t.source →
@@ -119,6 +129,7 @@ course-offered s m links K play q t course is_q is_t own came sign reached = rec
       course.outs offer.may_go);
   held_tags = course.held_tags;
   passed_tags = tags-behind play t (arrival_of K) course.passed_tags tag;
+  sources = within-behind s m play t (arrival_of K) course.reached course.sources below;
   taken = course.taken;
   sorted = at_place (λ y (l : Link). AreSorted l.held l.last) m.links q.source (after_pass (link_of m q.source) q.mark)
       q_below (course.sorted q.source) (λ y apart. course.sorted y);
@@ -192,6 +203,7 @@ course-head s m links K play t rest h hs course none_offered idle below is first
       refl course.outs may_go;
   held_tags = λ y. tags_at y;
   passed_tags = tags-behind play t (arrival_of K) course.passed_tags tag;
+  sources = within-behind s m play t (arrival_of K) course.reached course.sources below;
   taken = course.taken;
   sorted = at_place (λ y (l : Link). AreSorted l.held l.last) m.links t.source (after_head (link_of m t.source) h.mark)
       below (subst (λ gs. AreSorted (drop 1 gs) (link_of m t.source).last) (sym is) sorted.2) (λ y apart. course.sorted y);

@@ -80,6 +80,11 @@ filter-one-push : (x : ℕ) (ts : List Tag) (t : Tag) (c : Bool) → is_tag_of x
 filter-one-push x ts t c e = filter-append (is_tag_of x) ts (t ∷ [])
     ∙ ap (λ (b : Bool). filter (is_tag_of x) ts ++ (if b then t ∷ [] else [])) e
 
+pub open-within : (ls : List Link) (y : ℕ) → (link_at ls y).is_open ≡ true → y < length ls
+open-within [] y e = absurd (true≢false (sym e))
+open-within (l ∷ ls) zero e = omega arith
+open-within (l ∷ ls) (suc y) e = let below : y < length ls = open-within ls y e in omega arith
+
 pub owners-present : (s : Setup) (m : Merger) (links : Links) (K : Key) (play : Play) → Course s m links K play →
     m.draining ≡ false → (o : ℕ) → (link_of m o).is_open ≡ true → (k : Key) × (links.present o ≡ Some k)
 owners-present s m links K play course quiet o opened = by_present (links.present o) refl
@@ -87,16 +92,11 @@ owners-present s m links K play course quiet o opened = by_present (links.presen
     fits : Fits m
     fits = reached-fits s m course.reached
 
-    within : (ls : List Link) (y : ℕ) → (link_at ls y).is_open ≡ true → y < length ls
-    within [] y e = absurd (true≢false (sym e))
-    within (l ∷ ls) zero e = omega arith
-    within (l ∷ ls) (suc y) e = let below : y < length ls = within ls y e in omega arith
-
     by_present : (p : Option Key) → links.present o ≡ p → (k : Key) × (links.present o ≡ Some k)
     by_present (Some k) e = (k, e)
     by_present None e =
         let none : (link_of m o).held ≡ [] =
-        (reached-settled s m course.reached quiet).owners o (within m.links o opened) opened in
+        (reached-settled s m course.reached quiet).owners o (open-within m.links o opened) opened in
         absurd (true≢false (sym opened ∙ (nothing-held m o fits (fits.quiet quiet).0 none ∙ (course.sysex o ∙ course.over o e))))
 
 pub course-drained : (s : Setup) (m : Merger) (links : Links) (K : Key) (play : Play) → Course s m links K play →
@@ -111,17 +111,12 @@ course-drained s m links K play course quiet =
     some : (x : ℕ) → 1024 ≤ length (link_of m x).held → (link_of m x).held ≡ [] → ⊥
     some x many none = let few : length (link_of m x).held ≡ 0 = ap length none in omega (arith, many, few)
 
-    within : (ls : List Link) (y : ℕ) → (link_at ls y).is_open ≡ true → y < length ls
-    within [] y e = absurd (true≢false (sym e))
-    within (l ∷ ls) zero e = omega arith
-    within (l ∷ ls) (suc y) e = let below : y < length ls = within ls y e in omega arith
-
     free : (o : ℕ) → (link_of m o).is_open ≡ true → links.stalled o ≡ false
     free o e = by_test (links.stalled o) refl
       where
         by_test : (b : Bool) → links.stalled o ≡ b → b ≡ false
         by_test false f = refl
-        by_test true f = absurd (some o (course.full o f) (settled.owners o (within m.links o e) e))
+        by_test true f = absurd (some o (course.full o f) (settled.owners o (open-within m.links o e) e))
 
 -- the marks given, one more of this link
 
@@ -227,6 +222,7 @@ course-accepts s m links K play x moment mark course may passes reached = record
   outs = subst (λ (f : ℕ → Bool). OutsKnown (goes_out s) f (tags_passed play)) (sym opens_same) course.outs;
   held_tags = course.held_tags;
   passed_tags = course.passed_tags;
+  sources = course.sources;
   taken = given-tags play links x moment (sign_of mark) course.taken;
   sorted = at_place (λ y (l : Link). AreSorted l.held l.last) m.links x (taken (link_of m x) true moment mark) below
       (sorted-later (link_of m x).held (link_of m x).last moment (course.sorted x) later) (λ y apart. course.sorted y);
@@ -363,6 +359,7 @@ course-holds s m links K play x moment mark course may waits reached = record {
       (sym (open_kept m x (taken (link_of m x) false moment mark) below refl)) course.outs;
   held_tags = λ y. tags_at y;
   passed_tags = course.passed_tags;
+  sources = course.sources;
   taken = given-tags play links x moment (sign_of mark) course.taken;
   sorted = at_place (λ y (l : Link). AreSorted l.held l.last) m.links x (taken (link_of m x) false moment mark) below
       (sorted-push (link_of m x).held (link_of m x).last (record { arrival = moment; mark = mark }) (course.sorted x) later)

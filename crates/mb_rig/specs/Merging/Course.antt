@@ -19,16 +19,17 @@ use Rattle.mb_message.specs.Signs.{Sign, sign_of, suits_sign}
 use Rattle.mb_stream.specs.Puts.{Put, At, signs_in}
 use Rattle.mb_stream.specs.Standing.{is_open}
 use Rattle.mb_merge.specs.declared.source.Held.{Held}
+use Rattle.mb_merge.specs.declared.router.Passed.{Passed}
 use Rattle.mb_merge.specs.Links.{Merger, link_of}
 use Rattle.mb_merge.specs.Opening.{opened}
 use Rattle.mb_merge.specs.Passing.{has_room}
 use Rattle.mb_merge.specs.Calls.{Call, after_calls, begins, goes_to}
 use Rattle.mb_rig.specs.RigText.{Setup}
-use Rattle.mb_rig.specs.Merging.Lines.{Key, is_below, key_at}
+use Rattle.mb_rig.specs.Merging.Lines.{Key, arrival_of, is_below, key_at}
 use Rattle.mb_rig.specs.Merging.Run.{AtMost}
 use Rattle.mb_rig.specs.Merging.Unbroken.{HasOwner}
 use Rattle.mb_rig.specs.Merging.Routed.{open_of, keys_of}
-use Rattle.mb_rig.specs.Merging.Tags.{Tag, Play, AreTags, IsTag, is_realtime_sign, is_tag_of, tags_of, tags_passed, tag_at, under_of}
+use Rattle.mb_rig.specs.Merging.Tags.{Tag, Play, AreTags, IsOffered, IsTag, is_realtime_sign, is_tag_of, tags_of, tags_passed, tag_at, under_of}
 use Rattle.mb_rig.specs.Merging.Order.{Order, sharing}
 use Rattle.mb_rig.specs.Merging.Realtimes.{RealtimesFit, IsLatest, places_of, stands}
 use Rattle.mb_rig.specs.Merging.Places.{AreBelow, Places}
@@ -106,6 +107,11 @@ pub record Offering (s : Setup) (m : Merger) (links : Links) (K : Key) (play : P
   pub waits : is_realtime_sign t.sign ≡ true → play.held t.source ≢ [] →
       HasOwner (sharing s.routes) (stands play (open_of m) (keys_of m)) t.source (λ o. Unit {0})
 
+-- of sources that there are
+abbrev pub AreWithin : (count : ℕ) → List Tag → Type 0
+AreWithin count [] = Unit {0}
+AreWithin count (t ∷ ts) = (t.source < count) × AreWithin count ts
+
 -- what a step knows as it offers a mark of a link
 pub record MayOffer (s : Setup) (m : Merger) (links : Links) (K : Key) (x moment : ℕ) (mark : Mark) : Type 0 where
   pub source : x < length s.ins
@@ -127,6 +133,7 @@ pub record Course (s : Setup) (m : Merger) (links : Links) (K : Key) (play : Pla
   pub outs : OutsKnown (goes_out s) (open_of m) (tags_passed play)
   pub held_tags : (x : ℕ) → AreTags (play.held x)
   pub passed_tags : AreTags (tags_passed play)
+  pub sources : AreWithin (length s.ins) (tags_passed play)
   pub taken : (x : ℕ) → filter (is_tag_of x) play.taken ≡ tags_of x (links.given x)
   pub sorted : (x : ℕ) → AreSorted (link_of m x).held (link_of m x).last
   pub full : (x : ℕ) → links.stalled x ≡ true → 1024 ≤ length (link_of m x).held
@@ -136,3 +143,34 @@ pub record Course (s : Setup) (m : Merger) (links : Links) (K : Key) (play : Pla
   -- where it has one, the router may take marks of its moment
   pub in_time : (x : ℕ) (k : Key) → links.present x ≡ Some k → ((link_of m x).last ≤ k.moment) × (k.link ≡ x)
   pub offering : (t : Tag) → play.offered ≡ Some t → Offering s m links K play t
+
+-- A mark passes, whose tag it is, at the greatest key's moment.
+pub record Passes (s : Setup) (m : Merger) (links : Links) (K : Key) (play : Play) (q : Passed) : Type 0 where
+  pub tag : Tag
+  pub is_tag : IsTag tag
+  pub is : IsOffered (Some q) (Some tag)
+  pub after : Play
+  pub taken : after.taken ≡ play.taken
+  pub passed : after.passed ≡ play.passed ++ record { tag = tag; moment = arrival_of K } ∷ []
+  pub course : Course s m (freed links q.source) K after
+
+-- what a call for the next mark leaves
+abbrev pub PassesOn : Setup → Links → Key → Play → Option Passed → Merger → Type 0
+PassesOn s links K play None m = Course s m links K play
+PassesOn s links K play (Some q) m = Passes s m links K play q
+
+-- a run that has read nothing; the links' first keys are known
+abbrev pub first_links : (ℕ → Option Key) → Links
+first_links present = record { present = present; stalled = λ x. false; given = λ x. [] }
+
+abbrev pub AreOfLinks : (ℕ → Option Key) → Type 0
+AreOfLinks present = (x : ℕ) (k : Key) → present x ≡ Some k → k.link ≡ x
+
+-- no link that may step has a lower key
+abbrev pub IsLeastKey : Links → Key → Type 0
+IsLeastKey links k = (x : ℕ) (c : Key) → links.stalled x ≡ false → links.present x ≡ Some c → AtMost k c
+
+-- The next record of a link isn't earlier; where there is none, no SysEx is open behind its marks.
+pub record IsNextKey (links : Links) (x : ℕ) (k : Key) (next : Option Key) : Type 0 where
+  pub later : (c : Key) → next ≡ Some c → AtMost k c × (c.link ≡ x)
+  pub closed : next ≡ None → is_open (signs_in (links.given x)) ≡ false

@@ -1,18 +1,19 @@
-use Rattle.std.proofs.Common.{refl}
+use Rattle.mb_rig.proofs.Merging.CourseSteps.{course-begins, course-renews, course-stalls}
 use Rattle.mb_rig.proofs.Merging.CourseTakes.{course-takes}
-use Rattle.mb_rig.proofs.Merging.CoursePasses.{course-offered, course-head}
-use Rattle.mb_rig.proofs.Merging.SourceLines.{of-source, front-of-source}
-use Rattle.mb_rig.proofs.Merging.HeardLemmas.{realtimes-heard}
+use Rattle.mb_rig.proofs.Merging.CourseNext.{course-next}
 use Rattle.mb_rig.proofs.laws.runs.Goals as goal
+
+pub returns-clause-begins : goal.returns-clause-begins
+returns-clause-begins c = course-begins
 
 pub returns-clause-takes : goal.returns-clause-takes
 returns-clause-takes c = course-takes
 
-pub returns-clause-offered : goal.returns-clause-offered
-returns-clause-offered c = course-offered
+pub returns-clause-passes : goal.returns-clause-passes
+returns-clause-passes c = course-next
 
-pub returns-clause-head : goal.returns-clause-head
-returns-clause-head c = course-head
+pub returns-clause-renews : goal.returns-clause-renews
+returns-clause-renews c = course-renews
 
-pub returns-clause-lines : goal.returns-clause-lines
-returns-clause-lines c x puts = refl
+pub returns-clause-stalls : goal.returns-clause-stalls
+returns-clause-stalls c = course-stalls
