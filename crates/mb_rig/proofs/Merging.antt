@@ -22,3 +22,5 @@ pub mod CourseTakes
 pub mod CoursePasses
 pub mod CourseNext
 pub mod CourseSteps
+pub mod CourseEnds
+pub mod OutsHeard

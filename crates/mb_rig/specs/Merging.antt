@@ -12,3 +12,4 @@ pub mod Unstalled
 pub mod Places
 pub mod Heard
 pub mod Course
+pub mod Ended

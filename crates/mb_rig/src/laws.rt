@@ -1,15 +1,23 @@
 //! Laws of a run on lists. Each function does nothing; what is proved is its contract.
 
-ghost use Rattle.std.specs.Prelude.{◌≡◌, ◌≤◌, false, ℕ, Some, Option, length};
+ghost use Rattle.std.specs.Prelude.{◌≡◌, ◌<◌, ◌≤◌, true, false, ℕ, List, None, Some, Option, length};
 ghost use Rattle.mb_message.specs.declared.mark.Mark.{Mark};
 ghost use Rattle.mb_message.specs.Signs.{sign_of};
 ghost use Rattle.mb_merge.specs.Links.{Merger, link_of};
 ghost use Rattle.mb_merge.specs.Passing.{next_of, offered_in, passes_now};
 ghost use Rattle.mb_rig.specs.RigText.{Setup};
-ghost use Rattle.mb_rig.specs.Merging.Lines.{Key};
-ghost use Rattle.mb_rig.specs.Merging.Tags.{Play, takes};
+ghost use Rattle.mb_rig.specs.Merging.Lines.{Key, Source};
+ghost use Rattle.mb_rig.specs.Merging.Tags.{Play, report_of, takes};
 ghost use Rattle.mb_rig.specs.Merging.Course.{Course, IsLeastKey, IsNextKey, Links, MayOffer, PassesOn, gives, greater};
 ghost use Rattle.mb_rig.specs.Merging.Course.{next_tag, renews, stalls};
+
+ghost use Rattle.mb_rig.specs.Merging.Ended.{AreGiven, AreGivenFronts, IsMerged, IsMergedFront, MeansSoFar};
+ghost use Rattle.mb_rig.specs.Merging.Ended.{puts_to};
+ghost use Rattle.mb_rig.specs.Merging.Merged.{meant_by};
+ghost use Rattle.mb_rig.specs.Merging.Report.{lines_to};
+ghost use Rattle.mb_stream.specs.Denotation.{denotation};
+ghost use Rattle.mb_stream.specs.Puts.{signs_in};
+ghost use Rattle.mb_stream.specs.Standing.{AreValid, suited};
 
 /// Scratch.
 pub fn runs()
@@ -27,4 +35,20 @@ pub fn runs()
     ensures stalls { (s : Setup) (m : Merger) (links : Links) (K : Key) (play : Play) (x : ℕ) (k : Key) →
         Course s m links K play → m.draining ≡ false → links.stalled x ≡ false → links.present x ≡ Some k →
         1024 ≤ length (link_of m x).held → Course s m (stalls links x) K play }
+    ensures merged { (s : Setup) (m : Merger) (links : Links) (K : Key) (play : Play) (sources : List Source) →
+        Course s m links K play → m.draining ≡ false → ((x : ℕ) → links.present x ≡ None) →
+        AreGiven links 0 sources → IsMerged s sources (report_of play.passed) }
+    ensures stopped { (s : Setup) (m : Merger) (links : Links) (K : Key) (play : Play) (sources : List Source) →
+        Course s m links K play → play.offered ≡ None → AreGivenFronts links 0 sources →
+        IsMergedFront s sources (report_of play.passed) }
+    ensures heard { (s : Setup) (m : Merger) (links : Links) (K : Key) (play : Play) (out : ℕ) →
+        Course s m links K play → out < 16 →
+        MeansSoFar (signs_in (puts_to s.routes out play.passed)) (lines_to s.routes out (report_of play.passed)) }
+    ensures means { (s : Setup) (m : Merger) (links : Links) (K : Key) (play : Play) (out : ℕ) →
+        Course s m links K play → m.draining ≡ false → ((x : ℕ) → links.present x ≡ None) → out < 16 →
+        denotation (signs_in (puts_to s.routes out play.passed))
+        ≡ meant_by (lines_to s.routes out (report_of play.passed)) }
+    ensures suits { (s : Setup) (m : Merger) (links : Links) (K : Key) (play : Play) (out : ℕ) →
+        Course s m links K play → out < 16 → (suited (signs_in (puts_to s.routes out play.passed)) ≡ true) ×
+        AreValid (signs_in (puts_to s.routes out play.passed)) }
 {}

@@ -16,7 +16,7 @@ use Rattle.mb_merge.specs.Calls.{IsSettled, may_offer}
 use Rattle.mb_merge.proofs.Flows.{Suit}
 use Rattle.mb_merge.proofs.Fits.{Fits, Turn, Passes, passes-why, waits-why, held_marks, offered_turn}
 use Rattle.mb_rig.specs.Merging.Routed.{open_of}
-use Rattle.mb_rig.specs.Merging.Tags.{Tag, AreHeld, IsOffered, is_realtime_sign}
+use Rattle.mb_rig.specs.Merging.Tags.{Tag, AreHeld, IsOffered, is_realtime_sign, is_sound}
 use Rattle.mb_rig.specs.Merging.Heard.{opens_sign}
 use Rattle.mb_rig.proofs.Merging.Lateness.{true≢false, none≢some}
 
@@ -53,6 +53,19 @@ suits-opens b Open fit = refl
 suits-opens b (Byte x) fit = first b (is_data x) fit
 suits-opens b End fit = refl
 suits-opens b Abort fit = refl
+
+-- a mark that suits is one that a stream can have
+pub mark-sound : (b : Bool) (mark : Mark) → suits_sign b (sign_of mark) ≡ true → is_sound (sign_of mark) ≡ true
+mark-sound b (Short x) fit = x.valid
+mark-sound b (Rt x) fit = x.valid
+mark-sound b Open fit = refl
+mark-sound b (Byte x) fit = second b (is_data x) fit
+  where
+    second : (a c : Bool) → (a && c) ≡ true → c ≡ true
+    second true c e = e
+    second false c e = absurd (true≢false (sym e))
+mark-sound b End fit = refl
+mark-sound b Abort fit = refl
 
 and-true : (a b : Bool) → a ≡ true → b ≡ true → (a && b) ≡ true
 and-true true b e f = f

@@ -41,7 +41,7 @@ use Rattle.mb_rig.proofs.Merging.MayGo.{may-go, goes_by, opened_by}
 use Rattle.mb_rig.proofs.Merging.Reached.{reached-offer, reached-fits, reached-settled, reached-shares, reached-sources, reached-goes}
 use Rattle.mb_rig.proofs.Merging.Given.{tags_of-push, place-push, signs-push, here-same, elsewhere, AreTags-push}
 use Rattle.mb_rig.proofs.Merging.CourseMarks.{mark-realtime, mark-opens, suits-opens, offer-may, nothing-held, held-closed}
-use Rattle.mb_rig.proofs.Merging.CourseMarks.{no-tags, no-marks, no-offer}
+use Rattle.mb_rig.proofs.Merging.CourseMarks.{mark-sound, no-tags, no-marks, no-offer}
 
 -- the router behind an offer that passes at once, or doesn't
 abbrev pub offer_by : Merger → (x moment : ℕ) → Mark → (passes : Bool) → Merger
@@ -326,7 +326,7 @@ course-accepts s m links K play x moment mark course may passes reached = record
     offering : Offering s (offer_by m x moment mark true) (gives links x moment (sign_of mark)) K
         (takes play true (next_tag links x moment (sign_of mark))) (next_tag links x moment (sign_of mark))
     offering = record {
-      is_tag = record { under = under_of x (links.given x); is = refl; link = refl };
+      is_tag = record { under = under_of x (links.given x); is = refl; link = refl; sound = mark-sound (is_open (signs_in (links.given x))) mark may.suits };
       free = may.free;
       here = may.here;
       within = may.within;
@@ -402,7 +402,7 @@ course-holds s m links K play x moment mark course may waits reached = record {
     tags_at y = ⊎_elim
         (λ (e : y ≡ x). subst (λ z. AreTags (with_held play.held x (play.held x ++ t ∷ []) z)) (sym e)
         (subst AreTags (sym (with_held-same play.held x (play.held x ++ t ∷ [])))
-        (AreTags-push (play.held x) t (course.held_tags x) (record { under = under_of x (links.given x); is = refl; link = refl }))))
+        (AreTags-push (play.held x) t (course.held_tags x) (record { under = under_of x (links.given x); is = refl; link = refl; sound = mark-sound (is_open (signs_in (links.given x))) mark may.suits }))))
         (λ (apart : y ≢ x). subst AreTags (sym (with_held-other play.held x y (play.held x ++ t ∷ []) apart)) (course.held_tags y))
         (same_or_not y x)
 

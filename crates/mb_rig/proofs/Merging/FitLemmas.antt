@@ -5,7 +5,7 @@ use Rattle.std.proofs.lemmas.Bool.Decides.{nat_tests}
 use Rattle.mb_message.specs.Signs.{Sign, ShortSign, RtSign, OpenSign, ByteSign, EndSign, AbortSign}
 use Rattle.mb_stream.specs.Denotation.{Syx, Broken}
 use Rattle.mb_rig.specs.Merging.Lines.{Key, Line, Event, Ends}
-use Rattle.mb_rig.specs.Merging.Tags.{Tag, Under, tag_at, tags_from, line_at, under_after, tag_in_turn, is_realtime_sign}
+use Rattle.mb_rig.specs.Merging.Tags.{Tag, Under, AreTags, tag_at, tags_from, line_at, under_after, tag_in_turn, is_realtime_sign}
 use Rattle.mb_rig.specs.Merging.Heard.{with_under, unders_after, LineFitsData, LinesFit}
 use Rattle.mb_rig.proofs.Merging.Lateness.{true≢false, same_or_not, none≢some, some_same}
 use Rattle.mb_rig.proofs.Merging.SourceLines.{filter-cons}
@@ -93,12 +93,12 @@ reading-fits source u v (m ∷ ms) same = by_kind (is_realtime_sign m.1) refl (�
         (tag-fits source u v m.0 m.1 same, rest (under_after v m.0 m.1) (same_after u v m.0 m.1 same))
 
 -- a real-time tag fits anywhere
-abbrev pub RealtimesFit : List Tag → Type 0
-RealtimesFit [] = Unit {0}
-RealtimesFit (t ∷ ts) = (is_realtime_sign t.sign ≡ true → (u : Under) → LineFitsData u t) × RealtimesFit ts
+abbrev pub FitAnywhere : List Tag → Type 0
+FitAnywhere [] = Unit {0}
+FitAnywhere (t ∷ ts) = (is_realtime_sign t.sign ≡ true → (u : Under) → LineFitsData u t) × FitAnywhere ts
 
 -- What passes, of all sources: where each source's turns fit, all lines do.
-pub lines-fit : (unders : ℕ → Under) (ts : List Tag) → ((x : ℕ) → FitsTurns (unders x) (filter (tag_in_turn x) ts)) → RealtimesFit ts → LinesFit unders ts
+pub lines-fit : (unders : ℕ → Under) (ts : List Tag) → ((x : ℕ) → FitsTurns (unders x) (filter (tag_in_turn x) ts)) → FitAnywhere ts → LinesFit unders ts
 lines-fit unders [] turns rts = tt
 lines-fit unders (t ∷ ts) turns rts = (
   first (is_realtime_sign t.sign) refl,
@@ -146,3 +146,23 @@ lines-fit unders (t ∷ ts) turns rts = (
     rest x rt e (inr apart) =
         subst (λ u. FitsTurns u (filter (tag_in_turn x) ts)) (sym (elsewhere x (under_after (unders t.source) t.key t.sign) apart))
         (subst (FitsTurns (unders x)) (filter-cons (tag_in_turn x) t ts false (differ x apart)) (turns x))
+
+realtime-fits : (source : ℕ) (u v : Under) (key : Key) (m : Sign) → is_realtime_sign m ≡ true →
+    LineFitsData v (tag_at source u key m)
+realtime-fits source u v key (ShortSign s a b) e = absurd (true≢false (sym e))
+realtime-fits source u v key (RtSign b) e = record {
+  events = λ l f k g. ap (λ (x : Line). x.event) (sym (some_same f)) ∙ ap (λ (x : Line). x.event) (some_same g);
+  some = λ k g. line_there source v u key key (RtSign b) k g;
+  none = λ g. line_absent source v u key key (RtSign b) g;
+}
+realtime-fits source u v key OpenSign e = absurd (true≢false (sym e))
+realtime-fits source u v key (ByteSign b) e = absurd (true≢false (sym e))
+realtime-fits source u v key EndSign e = absurd (true≢false (sym e))
+realtime-fits source u v key AbortSign e = absurd (true≢false (sym e))
+
+pub tags-fit : (ts : List Tag) → AreTags ts → FitAnywhere ts
+tags-fit [] are = tt
+tags-fit (t ∷ ts) are = (
+  λ e u. subst (LineFitsData u) (sym are.0.is) (realtime-fits t.source are.0.under u t.key t.sign e),
+  tags-fit ts are.1,
+)

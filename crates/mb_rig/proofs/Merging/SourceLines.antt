@@ -45,7 +45,7 @@ abbrev pub AreOwnLines : List Tag → Type 0
 AreOwnLines [] = Unit {0}
 AreOwnLines (t ∷ ts) = IsOwnLine t × AreOwnLines ts
 
-abbrev tags_in : List PassedTag → List Tag
+abbrev pub tags_in : List PassedTag → List Tag
 tags_in ps = map (λ (x : PassedTag). x.tag) ps
 
 pub filter-cons : {A : Type 0} (f : A → Bool) (x : A) (xs : List A) (c : Bool) → f x ≡ c → filter f (x ∷ xs) ≡ (if c then x ∷ filter f xs else filter f xs)
@@ -96,7 +96,7 @@ once-lines x (p ∷ ps) own =
     (λ l e. let is = own.0 l e in ap (λ s. (s == x) && is_realtime l.event) is.0 ∙ ap (λ c. (p.tag.source == x) && c) is.1) (once-lines x ps own.1)
 
 -- tags of a source alone, of one kind
-filter-two : (x : ℕ) (kind : Sign → Bool) (ts : List Tag) → filter (λ (t : Tag). (t.source == x) && kind t.sign) ts ≡ filter (λ (t : Tag). kind t.sign) (filter (λ (t : Tag). t.source == x) ts)
+pub filter-two : (x : ℕ) (kind : Sign → Bool) (ts : List Tag) → filter (λ (t : Tag). (t.source == x) && kind t.sign) ts ≡ filter (λ (t : Tag). kind t.sign) (filter (λ (t : Tag). t.source == x) ts)
 filter-two x kind [] = refl
 filter-two x kind (t ∷ ts) = by_tests (t.source == x) refl (kind t.sign) refl (filter-two x kind ts)
   where

@@ -11,7 +11,9 @@
 use Rattle.std.specs.Prelude.{◌≡◌, ℕ, ◌+◌, Bool, true, false, not, ◌&&◌, ◌==◌, if◌then◌else◌, List, [], ◌∷◌, ◌++◌, map, filter, flat_map, drop, Option, Some, None}
 use Rattle.mb_message.specs.Signs.{Sign, ShortSign, RtSign, OpenSign, ByteSign, EndSign, AbortSign, sign_of}
 use Rattle.mb_stream.specs.Denotation.{Message, Syx, Broken}
+use Rattle.mb_message.specs.Bytes.{is_data}
 use Rattle.mb_stream.specs.Puts.{Put}
+use Rattle.mb_stream.specs.Standing.{is_valid}
 use Rattle.mb_merge.specs.declared.source.Held.{Held}
 use Rattle.mb_merge.specs.declared.router.Passed.{Passed}
 use Rattle.mb_merge.specs.Links.{Merger, link_of}
@@ -74,11 +76,17 @@ under_of source puts = under_behind (nothing_under source) (keyed_marks source p
 abbrev pub is_tag_of : (source : ℕ) → Tag → Bool
 is_tag_of source t = t.source == source
 
+-- A mark that a stream can have.
+abbrev pub is_sound : Sign → Bool
+is_sound (ByteSign b) = is_data b
+is_sound m = is_valid m
+
 -- It is a source's mark, with its line, where so much was under way.
 pub record IsTag (t : Tag) : Type 0 where
   pub under : Under
   pub is : t ≡ tag_at t.source under t.key t.sign
   pub link : t.key.link ≡ t.source
+  pub sound : is_sound t.sign ≡ true
 
 abbrev pub AreTags : List Tag → Type 0
 AreTags [] = Unit {0}

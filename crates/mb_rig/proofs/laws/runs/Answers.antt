@@ -1,6 +1,8 @@
 use Rattle.mb_rig.proofs.Merging.CourseSteps.{course-begins, course-renews, course-stalls}
 use Rattle.mb_rig.proofs.Merging.CourseTakes.{course-takes}
 use Rattle.mb_rig.proofs.Merging.CourseNext.{course-next}
+use Rattle.mb_rig.proofs.Merging.CourseEnds.{course-merged, course-stopped}
+use Rattle.mb_rig.proofs.Merging.OutsHeard.{course-heard, course-means, course-suits}
 use Rattle.mb_rig.proofs.laws.runs.Goals as goal
 
 pub returns-clause-begins : goal.returns-clause-begins
@@ -17,3 +19,18 @@ returns-clause-renews c = course-renews
 
 pub returns-clause-stalls : goal.returns-clause-stalls
 returns-clause-stalls c = course-stalls
+
+pub returns-clause-merged : goal.returns-clause-merged
+returns-clause-merged c = course-merged
+
+pub returns-clause-stopped : goal.returns-clause-stopped
+returns-clause-stopped c = course-stopped
+
+pub returns-clause-heard : goal.returns-clause-heard
+returns-clause-heard c = course-heard
+
+pub returns-clause-means : goal.returns-clause-means
+returns-clause-means c = course-means
+
+pub returns-clause-suits : goal.returns-clause-suits
+returns-clause-suits c = course-suits
