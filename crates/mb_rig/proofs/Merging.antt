@@ -24,3 +24,4 @@ pub mod CourseNext
 pub mod CourseSteps
 pub mod CourseEnds
 pub mod OutsHeard
+pub mod CalmSteps

@@ -13,3 +13,5 @@ pub mod Places
 pub mod Heard
 pub mod Course
 pub mod Ended
+pub mod Calm
+pub mod Passes

@@ -6,10 +6,10 @@ ghost use Rattle.mb_message.specs.Signs.{sign_of};
 ghost use Rattle.mb_merge.specs.Links.{Merger, link_of};
 ghost use Rattle.mb_merge.specs.Passing.{next_of, offered_in, passes_now};
 ghost use Rattle.mb_rig.specs.RigText.{Setup};
-ghost use Rattle.mb_rig.specs.Merging.Lines.{Key, Source};
-ghost use Rattle.mb_rig.specs.Merging.Tags.{Play, report_of, takes};
-ghost use Rattle.mb_rig.specs.Merging.Course.{Course, IsLeastKey, IsNextKey, Links, MayOffer, PassesOn, gives, greater};
-ghost use Rattle.mb_rig.specs.Merging.Course.{next_tag, renews, stalls};
+ghost use Rattle.mb_rig.specs.Merging.Lines.{Key, Source, no_key};
+ghost use Rattle.mb_rig.specs.Merging.Tags.{Play, begins_play, report_of, takes};
+ghost use Rattle.mb_rig.specs.Merging.Course.{Course, IsLeastKey, IsNextKey, Links, MayOffer, gives, greater};
+ghost use Rattle.mb_rig.specs.Merging.Course.{AreOfLinks, first_links, next_tag, renews, stalls, start_of};
 
 ghost use Rattle.mb_rig.specs.Merging.Ended.{AreGiven, AreGivenFronts, IsMerged, IsMergedFront, MeansSoFar};
 ghost use Rattle.mb_rig.specs.Merging.Ended.{puts_to};
@@ -19,8 +19,13 @@ ghost use Rattle.mb_stream.specs.Denotation.{denotation};
 ghost use Rattle.mb_stream.specs.Puts.{signs_in};
 ghost use Rattle.mb_stream.specs.Standing.{AreValid, suited};
 
+ghost use Rattle.mb_rig.specs.Merging.Calm.{Calm};
+ghost use Rattle.mb_rig.specs.Merging.Passes.{PassesOn};
+
 /// Scratch.
 pub fn runs()
+    ensures starts { (s : Setup) (present : ℕ → Option Key) → AreOfLinks present →
+        Course s (start_of s) (first_links present) (no_key 0) begins_play }
     ensures begins { (s : Setup) (m : Merger) (links : Links) (K : Key) (play : Play) (k : Key) →
         Course s m links K play → m.draining ≡ false → IsLeastKey links k → Course s m links (greater K k) play }
     ensures takes { (s : Setup) (m : Merger) (links : Links) (K : Key) (play : Play) (x moment : ℕ) (mark : Mark) →
@@ -28,7 +33,7 @@ pub fn runs()
         Course s (offered_in m x moment mark) (gives links x moment (sign_of mark)) K
         (takes play (passes_now m x mark) (next_tag links x moment (sign_of mark))) }
     ensures passes { (s : Setup) (m : Merger) (links : Links) (K : Key) (play : Play) → Course s m links K play →
-        PassesOn s links K play (next_of m).0 (next_of m).1 }
+        PassesOn s m links K play (next_of m).0 (next_of m).1 }
     ensures renews { (s : Setup) (m : Merger) (links : Links) (K : Key) (play : Play) (x : ℕ) (k : Key)
         (next : Option Key) → Course s m links K play → m.draining ≡ false → links.stalled x ≡ false →
         links.present x ≡ Some k → IsNextKey links x k next → Course s m (renews links x next) K play }
@@ -51,4 +56,16 @@ pub fn runs()
     ensures suits { (s : Setup) (m : Merger) (links : Links) (K : Key) (play : Play) (out : ℕ) →
         Course s m links K play → out < 16 → (suited (signs_in (puts_to s.routes out play.passed)) ≡ true) ×
         AreValid (signs_in (puts_to s.routes out play.passed)) }
+    ensures calm_starts { (s : Setup) (present : ℕ → Option Key) →
+        Calm s (start_of s) (first_links present) (no_key 0) begins_play }
+    ensures calm_begins { (s : Setup) (m : Merger) (links : Links) (K : Key) (play : Play) (x : ℕ) (k : Key) →
+        Course s m links K play → Calm s m links K play → m.draining ≡ false → links.present x ≡ Some k →
+        IsLeastKey links k → Calm s m links (greater K k) play }
+    ensures calm_takes { (s : Setup) (m : Merger) (links : Links) (K : Key) (play : Play) (x moment : ℕ) (mark : Mark) →
+        Course s m links K play → Calm s m links K play → MayOffer s m links K x moment mark →
+        Calm s (offered_in m x moment mark) (gives links x moment (sign_of mark)) K
+        (takes play (passes_now m x mark) (next_tag links x moment (sign_of mark))) }
+    ensures calm_renews { (s : Setup) (m : Merger) (links : Links) (K : Key) (play : Play) (x : ℕ) (k : Key)
+        (next : Option Key) → Calm s m links K play → links.present x ≡ Some k → IsNextKey links x k next →
+        Calm s m (renews links x next) K play }
 {}

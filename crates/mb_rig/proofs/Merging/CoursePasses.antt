@@ -36,7 +36,7 @@ use Rattle.mb_rig.proofs.Merging.RoutedSteps.{open_other, open_same, realtimes_r
 use Rattle.mb_rig.proofs.Merging.MayGo.{may-go, one_open}
 use Rattle.mb_rig.proofs.Merging.OwnerLemmas.{outs-pass}
 use Rattle.mb_rig.proofs.Merging.Reached.{reached-fits, reached-goes, reached-shares, reached-sources}
-use Rattle.mb_rig.proofs.Merging.Given.{here-same, elsewhere, tag-line, tag-place, tag-ends, AreTags-push, AreTags-drop}
+use Rattle.mb_rig.proofs.Merging.Given.{rises-push, here-same, elsewhere, tag-line, tag-place, tag-ends, AreTags-push, AreTags-drop}
 use Rattle.mb_rig.proofs.Merging.CourseMarks.{mark-realtime, mark-opens, no-tags}
 use Rattle.mb_rig.proofs.Merging.CourseTakes.{at_place}
 
@@ -127,6 +127,7 @@ course-offered s m links K play q t course is_q is_t own came sign reached = rec
       (tags_passed (offered_goes play t (arrival_of K)))) (sym own)
       (outs-behind s m play t (arrival_of K) (after_pass (link_of m t.source) q.mark) q.mark course.reached below sign refl
       course.outs offer.may_go);
+  rises = rises-push 0 (arrival_of K) play.passed t course.rises;
   held_tags = course.held_tags;
   passed_tags = tags-behind play t (arrival_of K) course.passed_tags tag;
   sources = within-behind s m play t (arrival_of K) course.reached course.sources below;
@@ -201,6 +202,7 @@ course-head s m links K play t rest h hs course none_offered idle below is first
       (tag-line t tag) (tag-place t tag);
   outs = outs-behind s m play t (arrival_of K) (after_head (link_of m t.source) h.mark) h.mark course.reached below sign
       refl course.outs may_go;
+  rises = rises-push 0 (arrival_of K) play.passed t course.rises;
   held_tags = λ y. tags_at y;
   passed_tags = tags-behind play t (arrival_of K) course.passed_tags tag;
   sources = within-behind s m play t (arrival_of K) course.reached course.sources below;

@@ -2,23 +2,31 @@
 use Rattle.std.proofs.Common.{◌≡◌, ◌≢◌, ◌⊎◌, inl, inr, ⊎_elim, ℕ, zero, suc, ◌<◌, ◌≤◌, Bool, true, false, List, [], ◌∷◌}
 use Rattle.std.proofs.Common.{length, map, Option, Some, None, refl, ap, sym, subst, ◌∙◌, arith}
 use Rattle.std.specs.Prelude.{◌&&◌, ◌||◌, ◌==◌, nat_lt, if◌then◌else◌, slice_get}
+use Rattle.std.specs.List.{range_with_len}
 use Rattle.std.proofs.lemmas.Bool.Decides.{nat_tests}
+use Rattle.std.proofs.lemmas.List.{get_or_past}
+use Rattle.std.proofs.lemmas.List.FromFn.{get_or-map-range_with_len, length-map-range_with_len}
 use Rattle.mb_stream.specs.Puts.{signs_in}
 use Rattle.mb_stream.specs.Standing.{is_open}
 use Rattle.mb_merge.specs.Links.{Link, Merger, closed_link, link_at, link_of}
 use Rattle.mb_merge.specs.Opening.{opened, outs_of}
+use Rattle.mb_merge.specs.Calls.{IsClosed}
 use Rattle.mb_merge.proofs.Fits.{Fits}
 use Rattle.mb_merge.proofs.Histories.{opened-IsFresh}
 use Rattle.mb_rig.specs.RigText.{Setup}
-use Rattle.mb_rig.specs.Merging.Lines.{Key, is_below, no_key}
+use Rattle.mb_rig.specs.Merging.Lines.{Key, arrival_of, is_below, no_key}
 use Rattle.mb_rig.specs.Merging.Run.{AtMost, IsLate, IsPresent, Lateness}
-use Rattle.mb_rig.specs.Merging.Tags.{Play, begins_play}
+use Rattle.mb_rig.specs.Merging.Routed.{key_of, open_of, run_of}
+use Rattle.mb_rig.specs.Merging.Tags.{AreHeld, Play, begins_play}
 use Rattle.mb_rig.specs.Merging.Order.{Order}
 use Rattle.mb_rig.specs.Merging.Course.{Links, Course, IsReached, IsNextKey, IsLeastKey, at_link, greater, renews, stalls}
+use Rattle.mb_rig.specs.Merging.Course.{AreOfLinks, AreSorted, first_links, goes_out, start_of}
 use Rattle.mb_rig.proofs.Merging.Lateness.{true≢false, none≢some, some_same, same_or_not}
 use Rattle.mb_rig.proofs.Merging.OrderSteps.{order-begins, order-ends}
 use Rattle.mb_rig.proofs.Merging.Reached.{reached-fits, reached-settled}
-use Rattle.mb_rig.proofs.Merging.Given.{here-same, elsewhere}
+use Rattle.mb_rig.proofs.Merging.PlaySteps.{in_turn-begins}
+use Rattle.mb_rig.proofs.Merging.OwnerLemmas.{outs-begin}
+use Rattle.mb_rig.proofs.Merging.Given.{here-same, elsewhere, rises-later}
 use Rattle.mb_rig.proofs.Merging.CourseMarks.{no-offer, nothing-held}
 use Rattle.mb_rig.proofs.Merging.CourseTakes.{course-drained, open-within}
 
@@ -37,6 +45,7 @@ course-begins s m links K play k course quiet least = record {
   realtimes = course.realtimes;
   places = course.places;
   outs = course.outs;
+  rises = rises-later 0 (arrival_of K) (arrival_of (greater K k)) play.passed course.rises (grows (is_below K k) refl);
   held_tags = course.held_tags;
   passed_tags = course.passed_tags;
   sources = course.sources;
@@ -48,6 +57,13 @@ course-begins s m links K play k course quiet least = record {
   in_time = course.in_time;
   offering = λ u e. absurd (none≢some u (sym (idle_of s m links K play course quiet) ∙ e));
 }
+  where
+    later : (a b : Key) → is_below a b ≡ true → arrival_of a ≤ arrival_of b
+    later a b e = let le : a.moment ≤ b.moment = grind (arith, nat_tests) in omega arith
+
+    grows : (c : Bool) → is_below K k ≡ c → arrival_of K ≤ arrival_of (if c then k else K)
+    grows true e = later K k e
+    grows false e = omega arith
 
 -- a link's record is used up
 pub course-renews : (s : Setup) (m : Merger) (links : Links) (K : Key) (play : Play) (x : ℕ) (k : Key) (next : Option Key) →
@@ -61,6 +77,7 @@ course-renews s m links K play x k next course quiet free here is = record {
   realtimes = course.realtimes;
   places = course.places;
   outs = course.outs;
+  rises = course.rises;
   held_tags = course.held_tags;
   passed_tags = course.passed_tags;
   sources = course.sources;
@@ -112,6 +129,7 @@ course-stalls s m links K play x k course quiet free here many = record {
   realtimes = course.realtimes;
   places = course.places;
   outs = course.outs;
+  rises = course.rises;
   held_tags = course.held_tags;
   passed_tags = course.passed_tags;
   sources = course.sources;
@@ -129,3 +147,79 @@ course-stalls s m links K play x k course quiet free here many = record {
   where
     self : (a : Key) → AtMost a a
     self a = grind (arith, nat_tests)
+
+-- The run starts: nothing was read but the links' first headers.
+
+empty-link : (f : ℕ → List Bool) (n source : ℕ) →
+    (link_at (map (λ x. closed_link (f x)) (range_with_len 0 n)) source).last ≡ 0
+empty-link f n source = by_place (below_or_not source n) where
+  below_or_not : (a b : ℕ) → (a < b) ⊎ (b ≤ a)
+  below_or_not a b = grind arith
+
+  by_place : (source < n) ⊎ (n ≤ source) → (link_at (map (λ x. closed_link (f x)) (range_with_len 0 n)) source).last ≡ 0
+  by_place (inl below) = ap (λ (l : Link). l.last)
+      (get_or-map-range_with_len (λ x. closed_link (f x)) 0 n source source (closed_link []) below (omega arith))
+  by_place (inr past) = ap (λ (l : Link). l.last)
+      (get_or_past (map (λ x. closed_link (f x)) (range_with_len 0 n)) source (closed_link [])
+      (omega (arith, length-map-range_with_len (λ x. closed_link (f x)) 0 n)))
+
+pub course-starts : (s : Setup) (present : ℕ → Option Key) → AreOfLinks present →
+    Course s (start_of s) (first_links present) (no_key 0) begins_play
+course-starts s present own = record {
+  reached = record { calls = []; now = refl };
+  order = record {
+    plays = record { held = λ x. no-held x; offered = tt };
+    turns = in_turn-begins;
+    late = record {
+      late = λ x late. absurd (not-late x late);
+      on_time = λ x free p. absurd (not-below p.0 p.2);
+    };
+    within = λ x i k e. absurd (none≢some k (sym (ap (λ hs. slice_get (map (key_of x) hs) i) (closed x).nothing) ∙ e));
+    bounded = record {
+      keys = λ i z e. absurd (none≢some z e);
+      moments = λ i z e. absurd (none≢some z e);
+    };
+    orderly = refl;
+  };
+  realtimes = record {
+    overtaken = λ x j n i p e at. absurd (none≢some n e);
+    merged = refl;
+  };
+  places = record {
+    below = λ k z e. absurd (none≢some z e);
+    held = λ x j n e. absurd (none≢some n e);
+    rising = λ x. tt;
+    apart = λ x j n k z e. absurd (none≢some n e);
+  };
+  outs = outs-begin (goes_out s) (open_of (start_of s)) (λ x. (closed x).not_open);
+  rises = omega arith;
+  held_tags = λ x. tt;
+  passed_tags = tt;
+  sources = tt;
+  taken = λ x. refl;
+  sorted = λ x. subst (λ hs. AreSorted hs (link_of (start_of s) x).last) (sym (closed x).nothing) tt;
+  full = λ x e. absurd (true≢false (sym e));
+  sysex = λ x. (closed x).outside;
+  over = λ x e. refl;
+  in_time = λ x k e. (
+    subst (λ n. n ≤ k.moment) (sym (empty-link (λ y. outs_of y s.routes) (length s.ins) x)) (omega arith),
+    own x k e,
+  );
+  offering = λ t e. absurd (none≢some t e);
+}
+  where
+    closed : (x : ℕ) → IsClosed (link_of (start_of s) x)
+    closed x = (opened-IsFresh (length s.ins) (length s.outs) s.routes).closed x
+
+    no-held : (x : ℕ) → AreHeld x (link_of (start_of s) x).held []
+    no-held x = subst (λ hs. AreHeld x hs []) (sym (closed x).nothing) tt
+
+    not-below : (k : Key) → is_below k (no_key 0) ≡ true → ⊥
+    not-below k e = true≢false (sym e ∙ above k.moment k.link)
+      where
+        above : (a b : ℕ) → (nat_lt a 0 || ((a == 0) && nat_lt b 0)) ≡ false
+        above a b = grind (arith, nat_tests)
+
+    not-late : (x : ℕ) → IsLate (run_of (start_of s) present (λ y. false) (no_key 0) []) x → ⊥
+    not-late x (inl h) = not-below h.0 h.2
+    not-late x (inr p) = not-below p.0 p.2

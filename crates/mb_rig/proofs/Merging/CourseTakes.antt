@@ -14,14 +14,15 @@ use Rattle.mb_stream.proofs.StandingLemmas.{open_after, is_open-push}
 use Rattle.mb_merge.specs.declared.source.Held.{Held}
 use Rattle.mb_merge.specs.Links.{Link, Merger, link_at, link_of}
 use Rattle.mb_merge.specs.Passing.{is_realtime_mark, may_pass, opens, passes_now, taken, offered_mark, offered_in}
-use Rattle.mb_merge.specs.Calls.{IsSettled, may_offer, goes_to}
+use Rattle.mb_merge.specs.Calls.{IsSettled, may_offer, goes_to, one}
 use Rattle.mb_merge.proofs.Flows.{link_at-set_same, link_at-set_other}
 use Rattle.mb_merge.proofs.Fits.{Fits, Passes, passes-why, waits-why}
 use Rattle.mb_rig.specs.RigText.{Setup}
-use Rattle.mb_rig.specs.Merging.Lines.{Key, key_at}
+use Rattle.mb_rig.specs.Merging.Lines.{Key, Line, is_sysex, key_at, no_key}
 use Rattle.mb_rig.specs.Merging.Run.{AtMost, Drained}
 use Rattle.mb_rig.specs.Merging.Unbroken.{HasOwner}
 use Rattle.mb_rig.specs.Merging.Routed.{key_of, open_of, keys_of, run_of}
+use Rattle.mb_rig.specs.Merging.Tags.{begin_behind, line_at, tag_in_turn}
 use Rattle.mb_rig.specs.Merging.Tags.{Tag, Play, IsTag, AreTags, is_realtime_sign, is_tag_of, tags_of, tags_passed, takes, under_of, with_held}
 use Rattle.mb_rig.specs.Merging.Order.{Order, newest, sharing}
 use Rattle.mb_rig.specs.Merging.Realtimes.{RealtimesFit, IsLatest, places_of, stands}
@@ -39,7 +40,7 @@ use Rattle.mb_rig.proofs.Merging.PlaceSteps.{places-accepts, places-takes, lates
 use Rattle.mb_rig.proofs.Merging.RoutedSteps.{open_kept, keys_kept, realtimes_routed-accepts, realtimes_routed-takes, with_link}
 use Rattle.mb_rig.proofs.Merging.MayGo.{may-go, goes_by, opened_by}
 use Rattle.mb_rig.proofs.Merging.Reached.{reached-offer, reached-fits, reached-settled, reached-shares, reached-sources, reached-goes}
-use Rattle.mb_rig.proofs.Merging.Given.{tags_of-push, place-push, signs-push, here-same, elsewhere, AreTags-push}
+use Rattle.mb_rig.proofs.Merging.Given.{given-begin, given-link, tag-begin, tags_of-push, place-push, signs-push, here-same, elsewhere, AreTags-push}
 use Rattle.mb_rig.proofs.Merging.CourseMarks.{mark-realtime, mark-opens, suits-opens, offer-may, nothing-held, held-closed}
 use Rattle.mb_rig.proofs.Merging.CourseMarks.{mark-sound, no-tags, no-marks, no-offer}
 
@@ -220,6 +221,7 @@ course-accepts s m links K play x moment mark course may passes reached = record
       (λ y. (under_of y ((gives links x moment (sign_of mark)).given y)).place) t course.places
       (next-place links x moment (sign_of mark)) (other-place links x moment (sign_of mark));
   outs = subst (λ (f : ℕ → Bool). OutsKnown (goes_out s) f (tags_passed play)) (sym opens_same) course.outs;
+  rises = course.rises;
   held_tags = course.held_tags;
   passed_tags = course.passed_tags;
   sources = course.sources;
@@ -323,10 +325,19 @@ course-accepts s m links K play x moment mark course may passes reached = record
             no_cons : map (key_of y) (h ∷ hs) ≡ [] → ⊥
             no_cons e = cc
 
+    sysex-calm : (m : Sign) (l : Line) → line_at x (under_of x (links.given x)) (key_at moment x) m ≡ Some l →
+        is_sysex l.event ≡ true → is_realtime_sign m ≡ false
+    sysex-calm (ShortSign y z w) l e sysex = refl
+    sysex-calm (RtSign y) l e sysex = absurd (true≢false (sym sysex ∙ ap (λ (k : Line). is_sysex k.event) (sym (some_same e))))
+    sysex-calm OpenSign l e sysex = refl
+    sysex-calm (ByteSign y) l e sysex = refl
+    sysex-calm EndSign l e sysex = refl
+    sysex-calm AbortSign l e sysex = refl
+
     offering : Offering s (offer_by m x moment mark true) (gives links x moment (sign_of mark)) K
         (takes play true (next_tag links x moment (sign_of mark))) (next_tag links x moment (sign_of mark))
     offering = record {
-      is_tag = record { under = under_of x (links.given x); is = refl; link = refl; sound = mark-sound (is_open (signs_in (links.given x))) mark may.suits };
+      is_tag = record { under = under_of x (links.given x); is = refl; link = refl; sound = mark-sound (is_open (signs_in (links.given x))) mark may.suits; begun = given-link x (links.given x) };
       free = may.free;
       here = may.here;
       within = may.within;
@@ -335,6 +346,13 @@ course-accepts s m links K play x moment mark course may passes reached = record
       latest = latest-of play (λ y. (under_of y (links.given y)).place) (next_tag links x moment (sign_of mark)) course.places refl;
       opening = λ e. held_same ∙ opening mark calm_empty
           (sym (mark-opens (link_of m x).is_open mark) ∙ (ap (λ (f : ℕ → Bool). opens_sign (f x) (sign_of mark)) (sym opens_same) ∙ e));
+      alone = λ calm. held_same ∙ calm_empty (sym (mark-realtime mark) ∙ calm);
+      begun = λ l e sysex. tag-begin x (under_of x (links.given x)) (key_at moment x) (sign_of mark) l e sysex
+          ∙ (given-begin x (links.given x) play.taken (course.taken x)
+          ∙ ap (begin_behind (no_key x)) (course.order.turns.turns x
+          ∙ (ap (λ (o : Option Tag). filter (tag_in_turn x) (tags_passed play) ++ (filter (tag_in_turn x) (one o) ++ play.held x)) idle
+          ∙ (ap (λ ts. filter (tag_in_turn x) (tags_passed play) ++ ts) (free (sysex-calm (sign_of mark) l e sysex))
+          ∙ append-nil (filter (tag_in_turn x) (tags_passed play))))));
       may_go = subst (λ (f : ℕ → Bool). MayGo (goes_out s) f t) (sym opens_same) may_go;
       waits = λ rt some. subst (λ (f : ℕ → Bool). HasOwner (sharing s.routes) (stands play f (keys_of (offer_by m x moment mark true))) x Anyone) (sym opens_same)
           (subst (λ (f : ℕ → List Key). HasOwner (sharing s.routes) (stands play (open_of m) f) x Anyone) (sym keys_same) (waits rt some));
@@ -357,6 +375,7 @@ course-holds s m links K play x moment mark course may waits reached = record {
       (next-place links x moment (sign_of mark)) (other-place links x moment (sign_of mark));
   outs = subst (λ (f : ℕ → Bool). OutsKnown (goes_out s) f (tags_passed play))
       (sym (open_kept m x (taken (link_of m x) false moment mark) below refl)) course.outs;
+  rises = course.rises;
   held_tags = λ y. tags_at y;
   passed_tags = course.passed_tags;
   sources = course.sources;
@@ -402,7 +421,7 @@ course-holds s m links K play x moment mark course may waits reached = record {
     tags_at y = ⊎_elim
         (λ (e : y ≡ x). subst (λ z. AreTags (with_held play.held x (play.held x ++ t ∷ []) z)) (sym e)
         (subst AreTags (sym (with_held-same play.held x (play.held x ++ t ∷ [])))
-        (AreTags-push (play.held x) t (course.held_tags x) (record { under = under_of x (links.given x); is = refl; link = refl; sound = mark-sound (is_open (signs_in (links.given x))) mark may.suits }))))
+        (AreTags-push (play.held x) t (course.held_tags x) (record { under = under_of x (links.given x); is = refl; link = refl; sound = mark-sound (is_open (signs_in (links.given x))) mark may.suits; begun = given-link x (links.given x) }))))
         (λ (apart : y ≢ x). subst AreTags (sym (with_held-other play.held x y (play.held x ++ t ∷ []) apart)) (course.held_tags y))
         (same_or_not y x)
 

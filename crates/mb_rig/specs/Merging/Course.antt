@@ -25,11 +25,12 @@ use Rattle.mb_merge.specs.Opening.{opened}
 use Rattle.mb_merge.specs.Passing.{has_room}
 use Rattle.mb_merge.specs.Calls.{Call, after_calls, begins, goes_to}
 use Rattle.mb_rig.specs.RigText.{Setup}
-use Rattle.mb_rig.specs.Merging.Lines.{Key, arrival_of, is_below, key_at}
+use Rattle.mb_rig.specs.Merging.Lines.{Key, Line, arrival_of, is_below, is_sysex, key_at}
 use Rattle.mb_rig.specs.Merging.Run.{AtMost}
 use Rattle.mb_rig.specs.Merging.Unbroken.{HasOwner}
 use Rattle.mb_rig.specs.Merging.Routed.{open_of, keys_of}
 use Rattle.mb_rig.specs.Merging.Tags.{Tag, Play, AreTags, IsOffered, IsTag, is_realtime_sign, is_tag_of, tags_of, tags_passed, tag_at, under_of}
+use Rattle.mb_rig.specs.Merging.Tags.{RisesFrom, begin_of}
 use Rattle.mb_rig.specs.Merging.Order.{Order, sharing}
 use Rattle.mb_rig.specs.Merging.Realtimes.{RealtimesFit, IsLatest, places_of, stands}
 use Rattle.mb_rig.specs.Merging.Places.{AreBelow, Places}
@@ -103,6 +104,9 @@ pub record Offering (s : Setup) (m : Merger) (links : Links) (K : Key) (play : P
   pub fresh : AreBelow (places_of play t.source) t.place
   pub latest : IsLatest play t
   pub opening : opens_sign (open_of m t.source) t.sign ≡ true → (link_of m t.source).held ≡ []
+  -- a mark that keeps its turn passes behind all of its source
+  pub alone : is_realtime_sign t.sign ≡ false → (link_of m t.source).held ≡ []
+  pub begun : (l : Line) → t.line ≡ Some l → is_sysex l.event ≡ true → l.begin ≡ begin_of play t.source
   pub may_go : MayGo (goes_out s) (open_of m) t
   pub waits : is_realtime_sign t.sign ≡ true → play.held t.source ≢ [] →
       HasOwner (sharing s.routes) (stands play (open_of m) (keys_of m)) t.source (λ o. Unit {0})
@@ -131,6 +135,7 @@ pub record Course (s : Setup) (m : Merger) (links : Links) (K : Key) (play : Pla
   pub realtimes : RealtimesFit s.routes play (open_of m) (keys_of m)
   pub places : Places play (λ x. (under_of x (links.given x)).place)
   pub outs : OutsKnown (goes_out s) (open_of m) (tags_passed play)
+  pub rises : RisesFrom 0 play.passed (arrival_of K)
   pub held_tags : (x : ℕ) → AreTags (play.held x)
   pub passed_tags : AreTags (tags_passed play)
   pub sources : AreWithin (length s.ins) (tags_passed play)
@@ -143,21 +148,6 @@ pub record Course (s : Setup) (m : Merger) (links : Links) (K : Key) (play : Pla
   -- where it has one, the router may take marks of its moment
   pub in_time : (x : ℕ) (k : Key) → links.present x ≡ Some k → ((link_of m x).last ≤ k.moment) × (k.link ≡ x)
   pub offering : (t : Tag) → play.offered ≡ Some t → Offering s m links K play t
-
--- A mark passes, whose tag it is, at the greatest key's moment.
-pub record Passes (s : Setup) (m : Merger) (links : Links) (K : Key) (play : Play) (q : Passed) : Type 0 where
-  pub tag : Tag
-  pub is_tag : IsTag tag
-  pub is : IsOffered (Some q) (Some tag)
-  pub after : Play
-  pub taken : after.taken ≡ play.taken
-  pub passed : after.passed ≡ play.passed ++ record { tag = tag; moment = arrival_of K } ∷ []
-  pub course : Course s m (freed links q.source) K after
-
--- what a call for the next mark leaves
-abbrev pub PassesOn : Setup → Links → Key → Play → Option Passed → Merger → Type 0
-PassesOn s links K play None m = Course s m links K play
-PassesOn s links K play (Some q) m = Passes s m links K play q
 
 -- a run that has read nothing; the links' first keys are known
 abbrev pub first_links : (ℕ → Option Key) → Links

@@ -8,7 +8,7 @@
 --                            the moment of its passing
 --   takes, passes            a tag is taken; the tag just offered, or the first held one of a source, passes
 --   Plays m p                the router holds, and is offered, the marks of the tags
-use Rattle.std.specs.Prelude.{◌≡◌, ℕ, ◌+◌, Bool, true, false, not, ◌&&◌, ◌==◌, if◌then◌else◌, List, [], ◌∷◌, ◌++◌, map, filter, flat_map, drop, Option, Some, None}
+use Rattle.std.specs.Prelude.{◌≡◌, ◌≤◌, ℕ, ◌+◌, Bool, true, false, not, ◌&&◌, ◌==◌, if◌then◌else◌, List, [], ◌∷◌, ◌++◌, map, filter, flat_map, drop, Option, Some, None}
 use Rattle.mb_message.specs.Signs.{Sign, ShortSign, RtSign, OpenSign, ByteSign, EndSign, AbortSign, sign_of}
 use Rattle.mb_stream.specs.Denotation.{Message, Syx, Broken}
 use Rattle.mb_message.specs.Bytes.{is_data}
@@ -87,6 +87,7 @@ pub record IsTag (t : Tag) : Type 0 where
   pub is : t ≡ tag_at t.source under t.key t.sign
   pub link : t.key.link ≡ t.source
   pub sound : is_sound t.sign ≡ true
+  pub begun : under.begin.link ≡ t.source
 
 abbrev pub AreTags : List Tag → Type 0
 AreTags [] = Unit {0}
@@ -175,3 +176,28 @@ line_of moment (Some line) = record { line = line; moment = moment } ∷ []
 
 abbrev pub report_of : List PassedTag → List Passing
 report_of ps = flat_map (λ (x : PassedTag). line_of x.moment x.tag.line) ps
+
+-- the key of the last start among marks, or one that stood before
+abbrev pub begin_at : (begin key : Key) → Sign → Key
+begin_at begin key OpenSign = key
+begin_at begin key (ShortSign s a b) = begin
+begin_at begin key (RtSign b) = begin
+begin_at begin key (ByteSign b) = begin
+begin_at begin key EndSign = begin
+begin_at begin key AbortSign = begin
+
+abbrev pub begin_then : Key → Tag → Key
+begin_then begin t = begin_at begin t.key t.sign
+
+abbrev pub begin_behind : Key → List Tag → Key
+begin_behind begin [] = begin
+begin_behind begin (t ∷ ts) = begin_behind (begin_then begin t) ts
+
+-- of what has passed of a source
+abbrev pub begin_of : Play → (source : ℕ) → Key
+begin_of p source = begin_behind (no_key source) (filter (tag_in_turn source) (tags_passed p))
+
+-- Moments of passing don't fall, and none is above this one.
+abbrev pub RisesFrom : (last : ℕ) → List PassedTag → (most : ℕ) → Type 0
+RisesFrom last [] most = last ≤ most
+RisesFrom last (x ∷ xs) most = (last ≤ x.moment) × RisesFrom x.moment xs most

@@ -1,8 +1,9 @@
-use Rattle.mb_rig.proofs.Merging.CourseSteps.{course-begins, course-renews, course-stalls}
+use Rattle.mb_rig.proofs.Merging.CourseSteps.{course-starts, course-begins, course-renews, course-stalls}
 use Rattle.mb_rig.proofs.Merging.CourseTakes.{course-takes}
 use Rattle.mb_rig.proofs.Merging.CourseNext.{course-next}
 use Rattle.mb_rig.proofs.Merging.CourseEnds.{course-merged, course-stopped}
 use Rattle.mb_rig.proofs.Merging.OutsHeard.{course-heard, course-means, course-suits}
+use Rattle.mb_rig.proofs.Merging.CalmSteps.{calm-starts, calm-begins, calm-takes, calm-renews}
 use Rattle.mb_rig.proofs.laws.runs.Goals as goal
 
 pub returns-clause-begins : goal.returns-clause-begins
@@ -34,3 +35,18 @@ returns-clause-means c = course-means
 
 pub returns-clause-suits : goal.returns-clause-suits
 returns-clause-suits c = course-suits
+
+pub returns-clause-starts : goal.returns-clause-starts
+returns-clause-starts c = course-starts
+
+pub returns-clause-calm_starts : goal.returns-clause-calm_starts
+returns-clause-calm_starts c = calm-starts
+
+pub returns-clause-calm_begins : goal.returns-clause-calm_begins
+returns-clause-calm_begins c = calm-begins
+
+pub returns-clause-calm_takes : goal.returns-clause-calm_takes
+returns-clause-calm_takes c = calm-takes
+
+pub returns-clause-calm_renews : goal.returns-clause-calm_renews
+returns-clause-calm_renews c = calm-renews
