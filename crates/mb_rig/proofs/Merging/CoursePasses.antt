@@ -41,7 +41,7 @@ use Rattle.mb_rig.proofs.Merging.CourseMarks.{mark-realtime, mark-opens, no-tags
 use Rattle.mb_rig.proofs.Merging.CourseTakes.{at_place}
 
 -- a mark behind which no SysEx is open any more ends it
-closes : (b : Bool) (mark : Mark) → b ≡ true → opens b mark ≡ false → (sign_of mark ≡ EndSign) ⊎ (sign_of mark ≡ AbortSign)
+pub closes : (b : Bool) (mark : Mark) → b ≡ true → opens b mark ≡ false → (sign_of mark ≡ EndSign) ⊎ (sign_of mark ≡ AbortSign)
 closes b (Short x) was now = absurd (true≢false (sym was ∙ now))
 closes b (Rt x) was now = absurd (true≢false (sym was ∙ now))
 closes b Open was now = absurd (true≢false now)
