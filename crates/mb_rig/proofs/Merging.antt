@@ -25,3 +25,4 @@ pub mod CourseSteps
 pub mod CourseEnds
 pub mod OutsHeard
 pub mod CalmSteps
+pub mod CourseKnows

@@ -2,9 +2,10 @@
 
 ghost use Rattle.std.specs.Prelude.{◌≡◌, ◌<◌, ◌≤◌, true, false, ℕ, List, None, Some, Option, length};
 ghost use Rattle.mb_message.specs.declared.mark.Mark.{Mark};
-ghost use Rattle.mb_message.specs.Signs.{sign_of};
+ghost use Rattle.mb_message.specs.Signs.{sign_of, suits_sign};
+ghost use Rattle.mb_merge.specs.declared.router.Passed.{Passed};
 ghost use Rattle.mb_merge.specs.Links.{Merger, link_of};
-ghost use Rattle.mb_merge.specs.Passing.{next_of, offered_in, passes_now};
+ghost use Rattle.mb_merge.specs.Passing.{has_room, next_of, offered_in, passes_now};
 ghost use Rattle.mb_rig.specs.RigText.{Setup};
 ghost use Rattle.mb_rig.specs.Merging.Lines.{Key, Source, no_key};
 ghost use Rattle.mb_rig.specs.Merging.Tags.{Play, begins_play, report_of, takes};
@@ -12,15 +13,15 @@ ghost use Rattle.mb_rig.specs.Merging.Course.{Course, IsLeastKey, IsNextKey, Lin
 ghost use Rattle.mb_rig.specs.Merging.Course.{AreOfLinks, first_links, next_tag, renews, stalls, start_of};
 
 ghost use Rattle.mb_rig.specs.Merging.Ended.{AreGiven, AreGivenFronts, IsMerged, IsMergedFront, MeansSoFar};
-ghost use Rattle.mb_rig.specs.Merging.Ended.{puts_to};
+ghost use Rattle.mb_rig.specs.Merging.Ended.{puts_to, turns_in};
 ghost use Rattle.mb_rig.specs.Merging.Merged.{meant_by};
-ghost use Rattle.mb_rig.specs.Merging.Report.{lines_to};
+ghost use Rattle.mb_rig.specs.Merging.Report.{goes, lines_to};
 ghost use Rattle.mb_stream.specs.Denotation.{denotation};
 ghost use Rattle.mb_stream.specs.Puts.{signs_in};
-ghost use Rattle.mb_stream.specs.Standing.{AreValid, suited};
+ghost use Rattle.mb_stream.specs.Standing.{AreValid, is_open, suited};
 
 ghost use Rattle.mb_rig.specs.Merging.Calm.{Calm};
-ghost use Rattle.mb_rig.specs.Merging.Passes.{PassesOn};
+ghost use Rattle.mb_rig.specs.Merging.Passes.{Passes, PassesOn};
 
 /// Scratch.
 pub fn runs()
@@ -68,4 +69,13 @@ pub fn runs()
     ensures calm_renews { (s : Setup) (m : Merger) (links : Links) (K : Key) (play : Play) (x : ℕ) (k : Key)
         (next : Option Key) → Calm s m links K play → links.present x ≡ Some k → IsNextKey links x k next →
         Calm s m (renews links x next) K play }
+    ensures progress { (s : Setup) (m : Merger) (links : Links) (K : Key) (play : Play) (x : ℕ) (k : Key) →
+        Course s m links K play → m.draining ≡ false → links.present x ≡ Some k →
+        (y : ℕ) × (c : Key) × (links.stalled y ≡ false) × (links.present y ≡ Some c) }
+    ensures room { (s : Setup) (m : Merger) (links : Links) (K : Key) (play : Play) (x : ℕ) (mark : Mark) →
+        Course s m links K play → m.draining ≡ false → length (turns_in (signs_in (links.given x))) < 1024 →
+        has_room m x mark ≡ true }
+    ensures next_suits { (s : Setup) (m now : Merger) (links : Links) (K : Key) (play : Play) (q : Passed) (out : ℕ) →
+        Passes s m now links K play q → out < 16 → goes s.routes q.source out ≡ true →
+        suits_sign (is_open (signs_in (puts_to s.routes out play.passed))) (sign_of q.mark) ≡ true }
 {}

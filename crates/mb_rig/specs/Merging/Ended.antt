@@ -2,11 +2,12 @@
 --
 --   sources_of s tapes       what each link reads, by the bytes of the tapes
 --   puts_to routes out ps    the marks that passed to an out, each at the moment of its passing
+--   turns_in signs           the marks that aren't real-time
 --   IsMerged s ss report     the report is merged from the sources, and in order
 --   IsMergedFront s ss r     where a run stopped: fronts of each source's lines, in order
 --   MeansSoFar signs lines   what the marks at an out mean: what the lines to it mean, and a last broken SysEx where one
 --                            is open there
-use Rattle.std.specs.Prelude.{◌≡◌, ℕ, ◌+◌, Bool, true, false, List, [], ◌∷◌, ◌++◌, map, filter, Option}
+use Rattle.std.specs.Prelude.{◌≡◌, ℕ, ◌+◌, Bool, true, false, not, List, [], ◌∷◌, ◌++◌, map, filter, Option}
 use Rattle.mb_message.specs.Front.{IsFront}
 use Rattle.mb_message.specs.Signs.{Sign}
 use Rattle.mb_stream.specs.Puts.{Put, At}
@@ -16,7 +17,7 @@ use Rattle.mb_rig.specs.Merging.Lines.{Line, Source, marks_of}
 use Rattle.mb_rig.specs.Merging.Report.{Passing, goes}
 use Rattle.mb_rig.specs.Merging.Merged.{AreOfSources, AreFrontsOfSources, items_of, realtimes_of, realtimes_merged}
 use Rattle.mb_rig.specs.Merging.Orderly.{is_orderly}
-use Rattle.mb_rig.specs.Merging.Tags.{PassedTag}
+use Rattle.mb_rig.specs.Merging.Tags.{PassedTag, is_realtime_sign}
 use Rattle.mb_rig.specs.Merging.Course.{Links}
 
 abbrev pub sources_from : (at : ℕ) → List RigPort → (tapes : ℕ → List ℕ) → List Source
@@ -32,6 +33,10 @@ put_of x = At x.moment x.tag.sign
 
 abbrev pub puts_to : List (ℕ × ℕ) → (out : ℕ) → List PassedTag → List Put
 puts_to routes out ps = map put_of (filter (λ (x : PassedTag). goes routes x.tag.source out) ps)
+
+-- the marks that aren't real-time
+abbrev pub turns_in : List Sign → List Sign
+turns_in signs = filter (λ (m : Sign). not (is_realtime_sign m)) signs
 
 pub record IsMerged (s : Setup) (sources : List Source) (report : List Passing) : Type 0 where
   pub lines : AreOfSources 0 sources report

@@ -4,6 +4,7 @@ use Rattle.mb_rig.proofs.Merging.CourseNext.{course-next}
 use Rattle.mb_rig.proofs.Merging.CourseEnds.{course-merged, course-stopped}
 use Rattle.mb_rig.proofs.Merging.OutsHeard.{course-heard, course-means, course-suits}
 use Rattle.mb_rig.proofs.Merging.CalmSteps.{calm-starts, calm-begins, calm-takes, calm-renews}
+use Rattle.mb_rig.proofs.Merging.CourseKnows.{course-progress, course-room, passes-suits}
 use Rattle.mb_rig.proofs.laws.runs.Goals as goal
 
 pub returns-clause-begins : goal.returns-clause-begins
@@ -50,3 +51,12 @@ returns-clause-calm_takes c = calm-takes
 
 pub returns-clause-calm_renews : goal.returns-clause-calm_renews
 returns-clause-calm_renews c = calm-renews
+
+pub returns-clause-progress : goal.returns-clause-progress
+returns-clause-progress c = course-progress
+
+pub returns-clause-room : goal.returns-clause-room
+returns-clause-room c = course-room
+
+pub returns-clause-next_suits : goal.returns-clause-next_suits
+returns-clause-next_suits c = passes-suits
