@@ -26,3 +26,4 @@ pub mod CourseEnds
 pub mod OutsHeard
 pub mod CalmSteps
 pub mod CourseKnows
+mod RunExamples
