@@ -1,5 +1,5 @@
 -- Each event of a run in which no link was ever stalled keeps it calm.
-use Rattle.std.proofs.Common.{◌≡◌, ◌≢◌, ◌⊎◌, inl, inr, ⊎_elim, ℕ, ◌<◌, ◌≤◌, Bool, true, false, List, [], ◌∷◌, ◌++◌, length, map}
+use Rattle.std.proofs.Common.{◌≡◌, ◌≢◌, ◌⊎◌, inl, inr, ⊎_elim, ℕ, ◌<◌, Bool, true, false, List, [], ◌∷◌, ◌++◌, length, map}
 use Rattle.std.proofs.Common.{filter, Option, Some, None, refl, ap, sym, subst, ◌∙◌, arith, append-nil}
 use Rattle.std.specs.Prelude.{not, ◌&&◌, ◌||◌, ◌==◌, nat_lt, if◌then◌else◌, slice_get, slice_set}
 use Rattle.std.proofs.lemmas.Bool.Decides.{nat_tests}
@@ -7,31 +7,29 @@ use Rattle.std.proofs.lemmas.List.Elements.{filter-append}
 use Rattle.mb_message.specs.declared.mark.Mark.{Mark}
 use Rattle.mb_message.specs.declared.mark.Mark.TheVariants.{Short, Rt, Open, Byte, End, Abort}
 use Rattle.mb_message.specs.Signs.{Sign, sign_of, suits_sign, ShortSign, RtSign, OpenSign, ByteSign, EndSign, AbortSign}
-use Rattle.mb_stream.specs.Standing.{is_open}
-use Rattle.mb_stream.specs.Puts.{signs_in}
 use Rattle.mb_merge.specs.declared.source.Held.{Held}
 use Rattle.mb_merge.specs.declared.router.Passed.{Passed}
-use Rattle.mb_merge.specs.Links.{Link, Merger, HasSource, link_of, is_owned, owns, share}
+use Rattle.mb_merge.specs.Links.{Merger, HasSource, link_of, is_owned, share}
 use Rattle.mb_merge.specs.Passing.{is_realtime_mark, may_pass, opens, passes_now, offered_in, after_pass, after_head, taken}
-use Rattle.mb_merge.specs.Calls.{IsClosed, IsSettled, one}
+use Rattle.mb_merge.specs.Calls.{IsClosed}
 use Rattle.mb_merge.proofs.Fits.{Fits, waits-why}
 use Rattle.mb_merge.proofs.Flows.{NoRealtime}
 use Rattle.mb_merge.proofs.Histories.{head-suits, opened-IsFresh}
 use Rattle.mb_merge.proofs.LinkLemmas.{is_owned_below-who}
 use Rattle.mb_rig.specs.RigText.{Setup}
 use Rattle.mb_rig.specs.Merging.Lines.{Key, Line, arrival_of, is_below, is_sysex, key_at, no_key}
-use Rattle.mb_rig.specs.Merging.Run.{AtMost, Drained}
-use Rattle.mb_rig.specs.Merging.Routed.{key_of, open_of, keys_of, run_of}
-use Rattle.mb_rig.specs.Merging.Tags.{Tag, PassedTag, Play, IsTag, AreTags, begin_at, begin_behind, begin_of, begin_then}
-use Rattle.mb_rig.specs.Merging.Tags.{begins_play, head_goes, is_realtime_sign, line_at, offered_goes, tag_at, tag_in_turn}
-use Rattle.mb_rig.specs.Merging.Tags.{tags_passed, takes, under_of}
-use Rattle.mb_rig.specs.Merging.Order.{newest, sharing}
+use Rattle.mb_rig.specs.Merging.Run.{AtMost}
+use Rattle.mb_rig.specs.Merging.Routed.{key_of, open_of, keys_of}
+use Rattle.mb_rig.specs.Merging.Tags.{Tag, PassedTag, Play, IsTag, begin_at, begin_behind, begin_of, begin_then}
+use Rattle.mb_rig.specs.Merging.Tags.{begins_play, head_goes, is_realtime_sign, offered_goes, tag_in_turn}
+use Rattle.mb_rig.specs.Merging.Tags.{tags_passed, takes}
+use Rattle.mb_rig.specs.Merging.Order.{sharing}
 use Rattle.mb_rig.specs.Merging.Heard.{opens_sign}
-use Rattle.mb_rig.specs.Merging.Unstalled.{IsOwn, OwnFits, UnstalledOrder}
+use Rattle.mb_rig.specs.Merging.Unstalled.{OwnFits, UnstalledOrder}
 use Rattle.mb_rig.specs.Merging.Course.{Course, IsLeastKey, IsNextKey, IsReached, Links, MayOffer, Offering}
 use Rattle.mb_rig.specs.Merging.Course.{at_link, first_links, freed, gives, greater, next_tag, renews, start_of}
 use Rattle.mb_rig.specs.Merging.Calm.{Calm}
-use Rattle.mb_rig.proofs.Merging.Lateness.{true≢false, none≢some, some_same, same_key, same_or_not, at_most_trans}
+use Rattle.mb_rig.proofs.Merging.Lateness.{true≢false, none≢some, same_key, same_or_not, at_most_trans}
 use Rattle.mb_rig.proofs.Merging.PlaySteps.{passed-push}
 use Rattle.mb_rig.proofs.Merging.SourceLines.{filter-cons}
 use Rattle.mb_rig.proofs.Merging.RouterEvents.{no_owner}
@@ -40,9 +38,9 @@ use Rattle.mb_rig.proofs.Merging.RoutedSteps.{unstalled_routed-accepts, unstalle
 use Rattle.mb_rig.proofs.Merging.RoutedSteps.{unstalled_routed-head, with_link}
 use Rattle.mb_rig.proofs.Merging.PlaceSteps.{tag_at-own}
 use Rattle.mb_rig.proofs.Merging.Reached.{reached-fits, reached-settled, reached-shares, reached-sources}
-use Rattle.mb_rig.proofs.Merging.Given.{elsewhere, given-link, here-same, tag-ends, tag-line, tag-place}
-use Rattle.mb_rig.proofs.Merging.CourseMarks.{held-closed, mark-realtime, mark-opens, no-offer, nothing-held}
-use Rattle.mb_rig.proofs.Merging.CourseTakes.{course-drained, open-within}
+use Rattle.mb_rig.proofs.Merging.Given.{elsewhere, here-same, tag-ends, tag-line, tag-place}
+use Rattle.mb_rig.proofs.Merging.CourseMarks.{held-closed, mark-realtime, mark-opens, nothing-held}
+use Rattle.mb_rig.proofs.Merging.CourseTakes.{course-drained}
 use Rattle.mb_rig.proofs.Merging.CoursePasses.{closes}
 
 -- where the open SysEx of a source began, one more mark having passed
@@ -151,8 +149,7 @@ owner-of : (s : Setup) (m : Merger) (x : ℕ) → IsReached (start_of s) m → m
     (o : ℕ) × ((link_of m o).is_open ≡ true) × (keys_of m o ≡ []) × (sharing s.routes o x ≡ true)
 owner-of s m x reached quiet below owned =
     let owner = is_owned_below-who m.links x (length m.links) owned in
-    let opened : (link_of m owner.at).is_open ≡ true = first _ _ owner.owned in
-    (
+    let opened : (link_of m owner.at).is_open ≡ true = first _ _ owner.owned in (
       owner.at,
       opened,
       ap (map (key_of owner.at)) ((reached-settled s m reached quiet).owners owner.at owner.below opened),

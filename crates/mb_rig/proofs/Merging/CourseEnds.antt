@@ -1,21 +1,18 @@
 -- What the course of a run gives at its end, and where it stops.
-use Rattle.std.proofs.Common.{◌≡◌, ◌≢◌, ◌⊎◌, inl, inr, ⊎_elim, ℕ, zero, suc, ◌+◌, ◌<◌, ◌≤◌, Bool, true, false, List, []}
-use Rattle.std.proofs.Common.{◌∷◌, ◌++◌, length, Option, Some, None, refl, ap, sym, subst, ◌∙◌, arith}
-use Rattle.std.specs.Prelude.{◌==◌, ◌&&◌, slice_get}
-use Rattle.mb_message.specs.Front.{IsFront}
+use Rattle.std.proofs.Common.{◌≡◌, ℕ, zero, suc, ◌+◌, ◌<◌, Bool, true, false, List, []}
+use Rattle.std.proofs.Common.{◌∷◌, length, None, refl, sym, subst, ◌∙◌, arith}
+use Rattle.std.specs.Prelude.{◌&&◌}
 use Rattle.mb_stream.specs.Puts.{Put}
 use Rattle.mb_merge.specs.declared.source.Held.{Held}
-use Rattle.mb_merge.specs.Links.{Link, Merger, closed_link, link_at, link_of, owns}
+use Rattle.mb_merge.specs.Links.{Link, Merger, link_at, link_of}
 use Rattle.mb_merge.specs.Calls.{IsSettled}
-use Rattle.mb_merge.proofs.Fits.{Fits}
 use Rattle.mb_merge.proofs.LinkLemmas.{is_owned_below-who}
-use Rattle.mb_rig.specs.RigText.{RigPort, Setup}
+use Rattle.mb_rig.specs.RigText.{Setup}
 use Rattle.mb_rig.specs.Merging.Lines.{Key, Source, marks_of}
-use Rattle.mb_rig.specs.Merging.Report.{Passing}
-use Rattle.mb_rig.specs.Merging.Merged.{AreOfSources, AreFrontsOfSources, IsOfSource, IsFrontOfSource}
+use Rattle.mb_rig.specs.Merging.Merged.{AreOfSources, AreFrontsOfSources, IsOfSource}
 use Rattle.mb_rig.specs.Merging.Tags.{Tag, Play, AreTags, tags_passed, report_of}
 use Rattle.mb_rig.specs.Merging.Course.{Links, Course}
-use Rattle.mb_rig.specs.Merging.Ended.{AreGiven, AreGivenFronts, IsMerged, IsMergedFront, sources_from, sources_of}
+use Rattle.mb_rig.specs.Merging.Ended.{AreGiven, AreGivenFronts, IsMerged, IsMergedFront}
 use Rattle.mb_rig.proofs.Merging.Lateness.{true≢false, none≢some}
 use Rattle.mb_rig.proofs.Merging.Reached.{reached-fits, reached-settled}
 use Rattle.mb_rig.proofs.Merging.SourceLines.{AreOwnLines, of-source, front-of-source}

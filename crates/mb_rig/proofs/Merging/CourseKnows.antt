@@ -1,11 +1,11 @@
 -- What the course of a run says of its next step.
-use Rattle.std.proofs.Common.{◌≡◌, ◌≢◌, ◌⊎◌, inl, inr, ⊎_elim, ℕ, zero, suc, ◌+◌, ◌<◌, ◌≤◌, Bool, true, false, List, []}
-use Rattle.std.proofs.Common.{◌∷◌, ◌++◌, length, map, filter, Option, Some, None, refl, ap, sym, subst, ◌∙◌, arith, append-nil}
-use Rattle.std.specs.Prelude.{not, ◌&&◌, if◌then◌else◌}
+use Rattle.std.proofs.Common.{◌≡◌, ⊎_elim, ℕ, suc, ◌<◌, ◌≤◌, Bool, true, false, List, []}
+use Rattle.std.proofs.Common.{◌∷◌, ◌++◌, length, map, filter, Option, Some, refl, ap, sym, ◌∙◌, arith}
+use Rattle.std.specs.Prelude.{not}
 use Rattle.std.proofs.lemmas.List.{length-append, map-append}
 use Rattle.std.proofs.lemmas.List.Elements.{filter-append}
 use Rattle.mb_message.specs.declared.mark.Mark.{Mark}
-use Rattle.mb_message.specs.Signs.{Sign, sign_of, suits_sign, ShortSign, RtSign, OpenSign, ByteSign, EndSign, AbortSign}
+use Rattle.mb_message.specs.Signs.{Sign, sign_of, suits_sign}
 use Rattle.mb_stream.specs.Puts.{Put, At, Flush, signs_in}
 use Rattle.mb_stream.specs.Standing.{is_open, suited}
 use Rattle.mb_stream.proofs.StandingLemmas as standing
@@ -14,16 +14,16 @@ use Rattle.mb_merge.specs.declared.router.Passed.{Passed}
 use Rattle.mb_merge.specs.Links.{Merger, link_of}
 use Rattle.mb_merge.specs.Passing.{has_room}
 use Rattle.mb_merge.specs.Calls.{one}
-use Rattle.mb_merge.proofs.Fits.{Fits, refused}
+use Rattle.mb_merge.proofs.Fits.{refused}
 use Rattle.mb_rig.specs.RigText.{Setup}
 use Rattle.mb_rig.specs.Merging.Lines.{Key, arrival_of, key_at, keyed_marks}
 use Rattle.mb_rig.specs.Merging.Report.{goes}
-use Rattle.mb_rig.specs.Merging.Tags.{AreHeld, PassedTag, Play, Tag, Under, is_realtime_sign, is_tag_of, tag_at, tag_in_turn}
-use Rattle.mb_rig.specs.Merging.Tags.{tags_from, tags_of, tags_passed, nothing_under, under_after}
+use Rattle.mb_rig.specs.Merging.Tags.{AreHeld, PassedTag, Play, Tag, Under, is_realtime_sign, tag_at, tag_in_turn}
+use Rattle.mb_rig.specs.Merging.Tags.{tags_from, tags_passed, nothing_under, under_after}
 use Rattle.mb_rig.specs.Merging.Course.{Course, Links}
 use Rattle.mb_rig.specs.Merging.Ended.{put_of, puts_to, turns_in}
 use Rattle.mb_rig.specs.Merging.Passes.{Passes}
-use Rattle.mb_rig.proofs.Merging.Lateness.{true≢false, true_or_not}
+use Rattle.mb_rig.proofs.Merging.Lateness.{true_or_not}
 use Rattle.mb_rig.proofs.Merging.SourceLines.{filter-cons, filter-two}
 use Rattle.mb_rig.proofs.Merging.Reached.{reached-fits}
 use Rattle.mb_rig.proofs.Merging.CourseMarks.{no-offer}

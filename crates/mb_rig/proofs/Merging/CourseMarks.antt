@@ -1,21 +1,20 @@
 -- What a router knows of a mark that is offered.
-use Rattle.std.proofs.Common.{◌≡◌, ◌≢◌, ◌⊎◌, inl, inr, ⊎_elim, ℕ, zero, suc, ◌+◌, ◌<◌, ◌≤◌, Bool, true, false, List, []}
-use Rattle.std.proofs.Common.{◌∷◌, ◌++◌, length, map, Option, Some, None, refl, ap, sym, subst, ◌∙◌, arith}
+use Rattle.std.proofs.Common.{◌≡◌, ℕ, ◌<◌, ◌≤◌, Bool, true, false, List, []}
+use Rattle.std.proofs.Common.{◌∷◌, ◌++◌, length, Option, Some, None, refl, ap, sym, subst, ◌∙◌, arith}
 use Rattle.std.specs.Prelude.{not, ◌&&◌, ◌||◌, ◌==◌, nat_lt, nat_le}
 use Rattle.std.proofs.lemmas.Bool.Decides.{nat_tests}
 use Rattle.mb_message.specs.Bytes.{is_data}
 use Rattle.mb_message.specs.declared.mark.Mark.{Mark}
 use Rattle.mb_message.specs.declared.mark.Mark.TheVariants.{Short, Rt, Open, Byte, End, Abort}
-use Rattle.mb_message.specs.Signs.{Sign, sign_of, suits_sign, ShortSign, RtSign, OpenSign, ByteSign, EndSign, AbortSign}
+use Rattle.mb_message.specs.Signs.{sign_of, suits_sign}
 use Rattle.mb_stream.proofs.StandingLemmas.{open_after}
 use Rattle.mb_merge.specs.declared.source.Held.{Held}
 use Rattle.mb_merge.specs.declared.router.Passed.{Passed}
-use Rattle.mb_merge.specs.Links.{Link, Merger, link_at, link_of}
+use Rattle.mb_merge.specs.Links.{Merger, link_of}
 use Rattle.mb_merge.specs.Passing.{has_room, is_realtime_mark, may_pass, opens, passes_now}
 use Rattle.mb_merge.specs.Calls.{IsSettled, may_offer}
 use Rattle.mb_merge.proofs.Flows.{Suit}
-use Rattle.mb_merge.proofs.Fits.{Fits, Turn, Passes, passes-why, waits-why, held_marks, offered_turn}
-use Rattle.mb_rig.specs.Merging.Routed.{open_of}
+use Rattle.mb_merge.proofs.Fits.{Fits, waits-why, held_marks, offered_turn}
 use Rattle.mb_rig.specs.Merging.Tags.{Tag, AreHeld, IsOffered, is_realtime_sign, is_sound}
 use Rattle.mb_rig.specs.Merging.Heard.{opens_sign}
 use Rattle.mb_rig.proofs.Merging.Lateness.{true≢false, none≢some}

@@ -1,14 +1,13 @@
 -- A call for the next mark: the course goes on.
-use Rattle.std.proofs.Common.{◌≡◌, ◌≢◌, ◌⊎◌, inl, inr, ⊎_elim, ℕ, ◌<◌, Bool, true, false, List, [], ◌∷◌, ◌++◌, length, drop}
-use Rattle.std.proofs.Common.{Option, Some, None, refl, ap, sym, subst, ◌∙◌, arith}
-use Rattle.std.specs.Prelude.{slice_get, slice_set}
+use Rattle.std.proofs.Common.{◌≡◌, ◌≢◌, ⊎_elim, ℕ, ◌<◌, true, false, List, ◌∷◌, length, drop}
+use Rattle.std.proofs.Common.{Option, Some, None, refl, ap, sym, subst, ◌∙◌}
+use Rattle.std.specs.Prelude.{slice_get}
 use Rattle.std.proofs.lemmas.Option.{none-some}
 use Rattle.mb_merge.specs.declared.source.Held.{Held}
 use Rattle.mb_merge.specs.declared.router.Passed.{Passed}
 use Rattle.mb_merge.specs.declared.waiting.Head.{Head}
-use Rattle.mb_merge.specs.Links.{Link, Merger, link_of}
+use Rattle.mb_merge.specs.Links.{Merger, link_of}
 use Rattle.mb_merge.specs.Passing.{may_pass, least, ready_by, drained, head_passes, held_passes, offered_passes, next_of}
-use Rattle.mb_merge.specs.Passing.{after_head}
 use Rattle.mb_merge.specs.Calls.{IsLeast}
 use Rattle.mb_merge.proofs.LeastLemmas.{least-IsLeast}
 use Rattle.mb_merge.proofs.Histories.{head_list, ready-may}

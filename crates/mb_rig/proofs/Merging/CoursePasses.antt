@@ -1,35 +1,34 @@
 -- A mark passes, the one just offered or a first held one: the course goes on.
-use Rattle.std.proofs.Common.{◌≡◌, ◌≢◌, ◌⊎◌, inl, inr, ⊎_elim, ℕ, zero, suc, ◌+◌, ◌<◌, ◌≤◌, Bool, true, false, List, []}
-use Rattle.std.proofs.Common.{◌∷◌, ◌++◌, length, map, drop, Option, Some, None, refl, ap, sym, subst, ◌∙◌, arith}
+use Rattle.std.proofs.Common.{◌≡◌, ◌≢◌, ◌⊎◌, inl, inr, ⊎_elim, ℕ, ◌<◌, ◌≤◌, Bool, true, false, List, []}
+use Rattle.std.proofs.Common.{◌∷◌, ◌++◌, length, map, drop, Some, None, refl, ap, sym, subst, ◌∙◌, arith}
 use Rattle.std.specs.Prelude.{◌&&◌, ◌||◌, ◌==◌, nat_lt, if◌then◌else◌, slice_set, slice_get}
 use Rattle.std.proofs.lemmas.Bool.Decides.{nat_tests}
 use Rattle.mb_message.specs.declared.mark.Mark.{Mark}
 use Rattle.mb_message.specs.declared.mark.Mark.TheVariants.{Short, Rt, Open, Byte, End, Abort}
-use Rattle.mb_message.specs.Signs.{Sign, sign_of, suits_sign, EndSign, AbortSign}
+use Rattle.mb_message.specs.Signs.{sign_of, suits_sign, EndSign, AbortSign}
 use Rattle.mb_stream.specs.Puts.{signs_in}
 use Rattle.mb_stream.specs.Standing.{is_open}
 use Rattle.mb_merge.specs.declared.source.Held.{Held}
 use Rattle.mb_merge.specs.declared.router.Passed.{Passed}
-use Rattle.mb_merge.specs.Links.{Link, Merger, HasSource, link_at, link_of}
+use Rattle.mb_merge.specs.Links.{Link, Merger, HasSource, link_of}
 use Rattle.mb_merge.specs.Passing.{is_realtime_mark, may_pass, opens, after_pass, after_head}
 use Rattle.mb_merge.proofs.Flows.{NoRealtime}
 use Rattle.mb_merge.proofs.Fits.{Fits}
 use Rattle.mb_merge.proofs.Histories.{head-suits}
 use Rattle.mb_rig.specs.RigText.{Setup}
-use Rattle.mb_rig.specs.Merging.Lines.{Key, Line, arrival_of, is_below, is_sysex}
-use Rattle.mb_rig.specs.Merging.Report.{Passing}
+use Rattle.mb_rig.specs.Merging.Lines.{Key, Line, arrival_of, is_sysex}
 use Rattle.mb_rig.specs.Merging.Run.{AtMost}
 use Rattle.mb_rig.specs.Merging.Routed.{key_of, open_of, keys_of}
 use Rattle.mb_rig.specs.Merging.Tags.{Tag, Play, PassedTag, IsTag, AreTags, is_realtime_sign, offered_goes, head_goes}
-use Rattle.mb_rig.specs.Merging.Tags.{tags_passed, under_of, with_held, IsHeldMark, IsOffered}
-use Rattle.mb_rig.specs.Merging.Order.{Order, sharing}
+use Rattle.mb_rig.specs.Merging.Tags.{tags_passed, under_of, with_held}
+use Rattle.mb_rig.specs.Merging.Order.{sharing}
 use Rattle.mb_rig.specs.Merging.Realtimes.{RealtimesFit}
 use Rattle.mb_rig.specs.Merging.Heard.{MayGo, OutsKnown, open_after, opens_sign}
 use Rattle.mb_rig.specs.Merging.Course.{Links, Course, Offering, IsReached, AreSorted, IsNotAfter, at_link, freed, goes_out}
 use Rattle.mb_rig.specs.Merging.Course.{AreWithin, start_of}
 use Rattle.mb_rig.proofs.Merging.Lateness.{true≢false, none≢some, some_same, same_or_not, EndsBy}
 use Rattle.mb_rig.proofs.Merging.RouterEvents.{no_owner}
-use Rattle.mb_rig.proofs.Merging.PlaySteps.{passed-push, first_tag, with_held-same, with_held-other}
+use Rattle.mb_rig.proofs.Merging.PlaySteps.{passed-push, with_held-same, with_held-other}
 use Rattle.mb_rig.proofs.Merging.OrderSteps.{order-offered, order-head, passing_of}
 use Rattle.mb_rig.proofs.Merging.PlaceSteps.{places-offered, places-head, apart-head}
 use Rattle.mb_rig.proofs.Merging.RoutedSteps.{open_other, open_same, realtimes_routed-offered, realtimes_routed-head, with_link}

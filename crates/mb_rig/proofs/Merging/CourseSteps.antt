@@ -1,5 +1,5 @@
 -- A run starts, a step begins, and it ends: the course goes on.
-use Rattle.std.proofs.Common.{◌≡◌, ◌≢◌, ◌⊎◌, inl, inr, ⊎_elim, ℕ, zero, suc, ◌<◌, ◌≤◌, Bool, true, false, List, [], ◌∷◌}
+use Rattle.std.proofs.Common.{◌≡◌, ◌≢◌, ◌⊎◌, inl, inr, ⊎_elim, ℕ, ◌<◌, ◌≤◌, Bool, true, false, List, []}
 use Rattle.std.proofs.Common.{length, map, Option, Some, None, refl, ap, sym, subst, ◌∙◌, arith}
 use Rattle.std.specs.Prelude.{◌&&◌, ◌||◌, ◌==◌, nat_lt, if◌then◌else◌, slice_get}
 use Rattle.std.specs.List.{range_with_len}
@@ -15,11 +15,10 @@ use Rattle.mb_merge.proofs.Fits.{Fits}
 use Rattle.mb_merge.proofs.Histories.{opened-IsFresh}
 use Rattle.mb_rig.specs.RigText.{Setup}
 use Rattle.mb_rig.specs.Merging.Lines.{Key, arrival_of, is_below, no_key}
-use Rattle.mb_rig.specs.Merging.Run.{AtMost, IsLate, IsPresent, Lateness}
+use Rattle.mb_rig.specs.Merging.Run.{AtMost, IsLate}
 use Rattle.mb_rig.specs.Merging.Routed.{key_of, open_of, run_of}
 use Rattle.mb_rig.specs.Merging.Tags.{AreHeld, Play, begins_play}
-use Rattle.mb_rig.specs.Merging.Order.{Order}
-use Rattle.mb_rig.specs.Merging.Course.{Links, Course, IsReached, IsNextKey, IsLeastKey, at_link, greater, renews, stalls}
+use Rattle.mb_rig.specs.Merging.Course.{Links, Course, IsNextKey, IsLeastKey, at_link, greater, renews, stalls}
 use Rattle.mb_rig.specs.Merging.Course.{AreOfLinks, AreSorted, first_links, goes_out, start_of}
 use Rattle.mb_rig.proofs.Merging.Lateness.{true≢false, none≢some, some_same, same_or_not}
 use Rattle.mb_rig.proofs.Merging.OrderSteps.{order-begins, order-ends}

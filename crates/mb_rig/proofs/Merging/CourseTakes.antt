@@ -1,9 +1,8 @@
 -- A mark of a link is offered, and is to pass or is held: the course goes on.
-use Rattle.std.proofs.Common.{◌≡◌, ◌≢◌, ◌⊎◌, inl, inr, ⊎_elim, ℕ, zero, suc, ◌+◌, ◌<◌, ◌≤◌, Bool, true, false, List, []}
+use Rattle.std.proofs.Common.{◌≡◌, ◌≢◌, ◌⊎◌, ⊎_elim, ℕ, zero, suc, ◌+◌, ◌<◌, ◌≤◌, Bool, true, false, List, []}
 use Rattle.std.proofs.Common.{◌∷◌, ◌++◌, length, map, filter, Option, Some, None, refl, ap, sym, subst, ◌∙◌, arith, append-nil}
-use Rattle.std.specs.Prelude.{not, ◌&&◌, ◌||◌, ◌==◌, nat_lt, nat_le, if◌then◌else◌, slice_set, slice_index_or, slice_get}
+use Rattle.std.specs.Prelude.{◌==◌, if◌then◌else◌, slice_set}
 use Rattle.std.proofs.lemmas.Bool.Decides.{nat_tests}
-use Rattle.std.proofs.lemmas.List.{length-append}
 use Rattle.std.proofs.lemmas.List.Elements.{filter-append}
 use Rattle.mb_message.specs.declared.mark.Mark.{Mark}
 use Rattle.mb_message.specs.declared.mark.Mark.TheVariants.{Short, Rt, Open, Byte, End, Abort}
@@ -13,23 +12,22 @@ use Rattle.mb_stream.specs.Standing.{is_open}
 use Rattle.mb_stream.proofs.StandingLemmas.{open_after, is_open-push}
 use Rattle.mb_merge.specs.declared.source.Held.{Held}
 use Rattle.mb_merge.specs.Links.{Link, Merger, link_at, link_of}
-use Rattle.mb_merge.specs.Passing.{is_realtime_mark, may_pass, opens, passes_now, taken, offered_mark, offered_in}
-use Rattle.mb_merge.specs.Calls.{IsSettled, may_offer, goes_to, one}
+use Rattle.mb_merge.specs.Passing.{is_realtime_mark, opens, passes_now, taken, offered_mark, offered_in}
+use Rattle.mb_merge.specs.Calls.{IsSettled, one}
 use Rattle.mb_merge.proofs.Flows.{link_at-set_same, link_at-set_other}
 use Rattle.mb_merge.proofs.Fits.{Fits, Passes, passes-why, waits-why}
 use Rattle.mb_rig.specs.RigText.{Setup}
 use Rattle.mb_rig.specs.Merging.Lines.{Key, Line, is_sysex, key_at, no_key}
-use Rattle.mb_rig.specs.Merging.Run.{AtMost, Drained}
+use Rattle.mb_rig.specs.Merging.Run.{Drained}
 use Rattle.mb_rig.specs.Merging.Unbroken.{HasOwner}
 use Rattle.mb_rig.specs.Merging.Routed.{key_of, open_of, keys_of, run_of}
 use Rattle.mb_rig.specs.Merging.Tags.{begin_behind, line_at, tag_in_turn}
-use Rattle.mb_rig.specs.Merging.Tags.{Tag, Play, IsTag, AreTags, is_realtime_sign, is_tag_of, tags_of, tags_passed, takes, under_of, with_held}
-use Rattle.mb_rig.specs.Merging.Order.{Order, newest, sharing}
-use Rattle.mb_rig.specs.Merging.Realtimes.{RealtimesFit, IsLatest, places_of, stands}
-use Rattle.mb_rig.specs.Merging.Places.{AreBelow, Places}
+use Rattle.mb_rig.specs.Merging.Tags.{Tag, Play, AreTags, is_realtime_sign, is_tag_of, tags_of, tags_passed, takes, under_of, with_held}
+use Rattle.mb_rig.specs.Merging.Order.{newest, sharing}
+use Rattle.mb_rig.specs.Merging.Realtimes.{stands}
 use Rattle.mb_rig.specs.Merging.Heard.{MayGo, OutsKnown, opens_sign}
-use Rattle.mb_rig.specs.Merging.Course.{Links, Course, MayOffer, Offering, IsReached, AreSorted, IsNotAfter}
-use Rattle.mb_rig.specs.Merging.Course.{at_link, gives, goes_out, next_tag, start_of}
+use Rattle.mb_rig.specs.Merging.Course.{Links, Course, MayOffer, Offering, IsReached, AreSorted}
+use Rattle.mb_rig.specs.Merging.Course.{gives, goes_out, next_tag, start_of}
 use Rattle.mb_rig.proofs.Merging.Lateness.{true≢false, none≢some, some_same, same_or_not}
 use Rattle.mb_rig.proofs.Merging.Overtaken.{Anyone}
 use Rattle.mb_rig.proofs.Merging.PlaySteps.{with_held-same, with_held-other}
@@ -37,12 +35,12 @@ use Rattle.mb_rig.proofs.Merging.RouterEvents.{drained_of}
 use Rattle.mb_rig.proofs.Merging.OrderSteps.{order-accepts, order-takes}
 use Rattle.mb_rig.proofs.Merging.RealtimeSteps.{owner-drained}
 use Rattle.mb_rig.proofs.Merging.PlaceSteps.{places-accepts, places-takes, latest-of}
-use Rattle.mb_rig.proofs.Merging.RoutedSteps.{open_kept, keys_kept, realtimes_routed-accepts, realtimes_routed-takes, with_link}
-use Rattle.mb_rig.proofs.Merging.MayGo.{may-go, goes_by, opened_by}
+use Rattle.mb_rig.proofs.Merging.RoutedSteps.{open_kept, keys_kept, realtimes_routed-accepts, realtimes_routed-takes}
+use Rattle.mb_rig.proofs.Merging.MayGo.{may-go}
 use Rattle.mb_rig.proofs.Merging.Reached.{reached-offer, reached-fits, reached-settled, reached-shares, reached-sources, reached-goes}
 use Rattle.mb_rig.proofs.Merging.Given.{given-begin, given-link, tag-begin, tags_of-push, place-push, signs-push, here-same, elsewhere, AreTags-push}
 use Rattle.mb_rig.proofs.Merging.CourseMarks.{mark-realtime, mark-opens, suits-opens, offer-may, nothing-held, held-closed}
-use Rattle.mb_rig.proofs.Merging.CourseMarks.{mark-sound, no-tags, no-marks, no-offer}
+use Rattle.mb_rig.proofs.Merging.CourseMarks.{mark-sound, no-tags, no-offer}
 
 -- the router behind an offer that passes at once, or doesn't
 abbrev pub offer_by : Merger → (x moment : ℕ) → Mark → (passes : Bool) → Merger

@@ -1,10 +1,10 @@
 -- The lines of what passes are what its source's marks say: in whatever places real-time marks pass.
-use Rattle.std.proofs.Common.{◌≡◌, ◌≢◌, ◌⊎◌, inl, inr, ⊎_elim, ℕ, ◌+◌, Bool, true, false, Option, Some, None, List, [], ◌∷◌, ◌++◌, map, filter, refl, ap, sym, subst, ◌∙◌, arith}
-use Rattle.std.specs.Prelude.{not, ◌&&◌, ◌==◌, if◌then◌else◌}
+use Rattle.std.proofs.Common.{◌≡◌, ◌≢◌, ◌⊎◌, inl, inr, ℕ, Bool, true, false, Some, None, List, [], ◌∷◌, ◌++◌, filter, refl, ap, sym, subst, ◌∙◌, arith}
+use Rattle.std.specs.Prelude.{not, ◌&&◌, ◌==◌}
 use Rattle.std.proofs.lemmas.Bool.Decides.{nat_tests}
 use Rattle.mb_message.specs.Signs.{Sign, ShortSign, RtSign, OpenSign, ByteSign, EndSign, AbortSign}
 use Rattle.mb_stream.specs.Denotation.{Syx, Broken}
-use Rattle.mb_rig.specs.Merging.Lines.{Key, Line, Event, Ends}
+use Rattle.mb_rig.specs.Merging.Lines.{Key, Line, Ends}
 use Rattle.mb_rig.specs.Merging.Tags.{Tag, Under, AreTags, tag_at, tags_from, line_at, under_after, tag_in_turn, is_realtime_sign}
 use Rattle.mb_rig.specs.Merging.Heard.{with_under, unders_after, LineFitsData, LinesFit}
 use Rattle.mb_rig.proofs.Merging.Lateness.{true≢false, same_or_not, none≢some, some_same}

@@ -1,8 +1,6 @@
 -- From what is known of overtaken marks to the third part of merged, line by line.
-use Rattle.std.proofs.Common.{◌≡◌, ℕ, zero, suc, ◌<◌, Bool, true, false, Option, Some, None, List, [], ◌∷◌, take, refl, ap, sym, subst, ◌∙◌, arith}
+use Rattle.std.proofs.Common.{◌≡◌, ℕ, suc, Bool, true, false, Some, List, [], ◌∷◌, take, refl, sym, subst}
 use Rattle.std.specs.Prelude.{not, ◌&&◌, ◌||◌, ◌==◌, nat_lt, slice_get, if◌then◌else◌}
-use Rattle.std.specs.List.{list_any}
-use Rattle.std.proofs.lemmas.Bool.Decides.{nat_tests}
 use Rattle.mb_rig.specs.Merging.Lines.{is_realtime, Line}
 use Rattle.mb_rig.specs.Merging.Report.{Passing, may_hold}
 use Rattle.mb_rig.specs.Merging.Merged.{realtimes_fit, overtakes}

@@ -1,15 +1,14 @@
 -- What passes to an out denotes its lines, and the open SysEx as a last broken one.
-use Rattle.std.proofs.Common.{◌≡◌, ◌≢◌, ◌⊎◌, inl, inr, ⊎_elim, ℕ, suc, ◌+◌, Bool, true, false, Option, Some, None, List, [], ◌∷◌, ◌++◌, map, refl, ap, sym, subst, ◌∙◌, arith}
-use Rattle.std.specs.Prelude.{◌==◌, if◌then◌else◌}
+use Rattle.std.proofs.Common.{◌≡◌, ◌≢◌, ⊎_elim, ℕ, suc, ◌+◌, Bool, true, false, Option, Some, None, List, [], ◌∷◌, ◌++◌, map, refl, ap, sym, ◌∙◌, arith}
 use Rattle.std.specs.List.{flat_map}
 use Rattle.std.proofs.lemmas.Bool.Decides.{nat_tests}
 use Rattle.mb_message.specs.Signs.{Sign, ShortSign, RtSign, OpenSign, ByteSign, EndSign, AbortSign}
 use Rattle.mb_stream.specs.Denotation.{Meant, Message, Syx, Broken, Timed, items_from, realtimes_from, left_open}
 use Rattle.mb_rig.specs.Merging.Lines.{Key, Line, Event, Ends, Realtime}
 use Rattle.mb_rig.specs.Merging.Merged.{items_of, realtimes_of, counts_one}
-use Rattle.mb_rig.specs.Merging.Tags.{Tag, Under, line_at, line_with, under_after}
+use Rattle.mb_rig.specs.Merging.Tags.{Tag, Under, line_at, under_after}
 use Rattle.mb_rig.specs.Merging.Heard.{with_under, unders_after, LineFitsData, LinesFit, owner_behind, MayFollow, Follows, open_data, end_unders, end_owner}
-use Rattle.mb_rig.proofs.Merging.Lateness.{same_or_not, none≢some}
+use Rattle.mb_rig.proofs.Merging.Lateness.{same_or_not}
 
 abbrev lines_of_tag : Option Line → List Line
 lines_of_tag None = []
@@ -82,18 +81,18 @@ item_at : (unders : ℕ → Under) (o : Option ℕ) (source place : ℕ) (key : 
 item_at unders o source place key (ShortSign s a b) line ms rest left fits may ih =
     ap (λ x. Message s a b ∷ items_from (open_data unders x) ms) may
     ∙ with_item (Message s a b) (unders source) (tag source place key (ShortSign s a b) line) _ rest left (items_from None ms) fits refl refl
-        (sym (ap (λ x. items_from (open_data (unders_after unders (tag source place key (ShortSign s a b) line)) x) ms) may) ∙ ih)
+    (sym (ap (λ x. items_from (open_data (unders_after unders (tag source place key (ShortSign s a b) line)) x) ms) may) ∙ ih)
 item_at unders o source place key (RtSign b) line ms rest left fits may ih =
     realtime_item b (unders source) (tag source place key (RtSign b) line) _ rest left (items_from (open_data unders o) ms) fits refl refl
     (ap (λ od. items_from od ms) (sym (data_kept unders source (under_after (unders source) key (RtSign b)) o refl)) ∙ ih)
 item_at unders o source place key OpenSign line ms rest left fits may ih =
     ap (λ x. items_from (open_data unders x) (OpenSign ∷ ms)) may
     ∙ no_item (unders source) (tag source place key OpenSign line) rest left (items_from (Some []) ms) fits refl
-        (ap (λ od. items_from od ms) (sym (data_now unders source (under_after (unders source) key OpenSign))) ∙ ih)
+    (ap (λ od. items_from od ms) (sym (data_now unders source (under_after (unders source) key OpenSign))) ∙ ih)
 item_at unders o source place key (ByteSign b) line ms rest left fits may ih =
     ap (λ x. items_from (open_data unders x) (ByteSign b ∷ ms)) may
     ∙ no_item (unders source) (tag source place key (ByteSign b) line) rest left (items_from (Some ((unders source).ds ++ b ∷ [])) ms) fits refl
-        (ap (λ od. items_from od ms) (sym (data_now unders source (under_after (unders source) key (ByteSign b)) ) ∙ ap (open_data (unders_after unders (tag source place key (ByteSign b) line))) (sym may)) ∙ ih)
+    (ap (λ od. items_from od ms) (sym (data_now unders source (under_after (unders source) key (ByteSign b))) ∙ ap (open_data (unders_after unders (tag source place key (ByteSign b) line))) (sym may)) ∙ ih)
 item_at unders o source place key EndSign line ms rest left fits may ih =
     ap (λ x. items_from (open_data unders x) (EndSign ∷ ms)) may
     ∙ with_item (Syx (unders source).ds) (unders source) (tag source place key EndSign line) _ rest left (items_from None ms) fits refl refl ih

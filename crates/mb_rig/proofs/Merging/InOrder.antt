@@ -1,15 +1,14 @@
 -- From what is known of a run to orderly and merged, line by line.
-use Rattle.std.proofs.Common.{◌≡◌, ◌≢◌, ◌⊎◌, inl, inr, ⊎_elim, ℕ, zero, suc, ◌<◌, ◌≤◌, Bool, true, false, Option, Some, None, List, [], ◌∷◌, ◌++◌, length, take, refl, ap, sym, subst, ◌∙◌, arith}
-use Rattle.std.specs.Prelude.{not, ◌&&◌, ◌||◌, ◌==◌, nat_lt, nat_le, slice_get, if◌then◌else◌}
+use Rattle.std.proofs.Common.{◌≡◌, ℕ, zero, suc, ◌≤◌, Bool, true, false, Some, List, [], ◌∷◌, refl, ap, sym, subst, ◌∙◌, arith}
+use Rattle.std.specs.Prelude.{not, ◌&&◌, ◌||◌, ◌==◌, nat_le, slice_get}
 use Rattle.std.specs.List.{list_any, list_all}
 use Rattle.std.proofs.lemmas.Bool.Decides.{nat_tests}
 use Rattle.mb_rig.specs.Merging.Lines.{Key, is_below, arrival_of, is_realtime, is_sysex, Line}
 use Rattle.mb_rig.specs.Merging.Report.{Passing, share, may_hold}
 use Rattle.mb_rig.specs.Merging.Orderly.{is_in_order, is_on_time, is_held_back}
-use Rattle.mb_rig.specs.Merging.Merged.{realtimes_fit, overtakes}
 use Rattle.mb_rig.specs.Merging.Run.{AtMost, Stood}
 use Rattle.mb_rig.specs.Merging.Order.{Bounded, sharing}
-use Rattle.mb_rig.proofs.Merging.Lateness.{true≢false, none≢some, some_same, true_or_not, at_most_trans}
+use Rattle.mb_rig.proofs.Merging.Lateness.{true≢false, none≢some, some_same}
 
 pub any_of : (f : Passing → Bool) (xs : List Passing) (i : ℕ) (x : Passing) → slice_get xs i ≡ Some x → f x ≡ true → list_any f xs ≡ true
 any_of f [] i x at e = absurd (none≢some x at)

@@ -1,5 +1,5 @@
 -- Each event of a run keeps what is known of late sources.
-use Rattle.std.proofs.Common.{◌≡◌, ◌≢◌, ◌⊎◌, inl, inr, ⊎_elim, ℕ, zero, suc, ◌<◌, Bool, true, false, Option, Some, None, List, [], ◌∷◌, ◌++◌, refl, ap, sym, subst, ◌∙◌, arith}
+use Rattle.std.proofs.Common.{◌≡◌, ◌≢◌, ◌⊎◌, inl, inr, ⊎_elim, ℕ, suc, Bool, true, false, Option, Some, None, List, [], ◌∷◌, ◌++◌, refl, ap, sym, subst, ◌∙◌, arith}
 use Rattle.std.specs.Prelude.{◌&&◌, ◌||◌, ◌==◌, nat_lt, slice_get, if◌then◌else◌}
 use Rattle.std.proofs.lemmas.Bool.Decides.{nat_tests}
 use Rattle.mb_rig.specs.Merging.Lines.{Key, is_below, is_sysex, Line}
@@ -153,9 +153,9 @@ passes_offered shares r is_open q i k known here not_above others opens ends = r
     keep x (inl w) = ⊎_elim
         (λ (now : is_open w.2.0 ≡ true). inl (closed x w.1 w.0, w.1, (w.2.0, now, w.2.2, w.2.3, w.2.4)))
         (λ now. inr (⊎_elim
-            (λ (same : w.2.0 ≡ i). owner_ends x (ap (λ o. shares o x) (sym same) ∙ w.2.3) (ap r.is_open (sym same) ∙ w.2.1) (ap is_open (sym same) ∙ now) (subst (λ o. IsPresent r o (λ c. AtMost r.greatest c)) same w.2.4))
-            (λ apart. absurd (true≢false (sym w.2.1 ∙ sym (others w.2.0 apart) ∙ now)))
-            (same_or_not w.2.0 i)))
+        (λ (same : w.2.0 ≡ i). owner_ends x (ap (λ o. shares o x) (sym same) ∙ w.2.3) (ap r.is_open (sym same) ∙ w.2.1) (ap is_open (sym same) ∙ now) (subst (λ o. IsPresent r o (λ c. AtMost r.greatest c)) same w.2.4))
+        (λ apart. absurd (true≢false (sym w.2.1 ∙ sym (others w.2.0 apart) ∙ now)))
+        (same_or_not w.2.0 i)))
         (true_or_not (is_open w.2.0))
 
 -- a line that passes as it is offered, late, was held back by one of the greatest key

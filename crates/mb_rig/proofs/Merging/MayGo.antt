@@ -1,11 +1,11 @@
 -- A mark that the router lets pass may go to its outs.
-use Rattle.std.proofs.Common.{◌≡◌, ◌≢◌, ◌⊎◌, inl, inr, ⊎_elim, ℕ, ◌<◌, Bool, true, false, List, length, get_or, refl, ap, sym, ◌∙◌, arith}
+use Rattle.std.proofs.Common.{◌≡◌, ◌≢◌, ⊎_elim, ℕ, Bool, true, false, length, get_or, refl, ap, sym, ◌∙◌}
 use Rattle.std.specs.Prelude.{not, ◌&&◌}
 use Rattle.mb_message.specs.Bytes.{is_data}
-use Rattle.mb_message.specs.Signs.{Sign, ShortSign, RtSign, OpenSign, ByteSign, EndSign, AbortSign, sign_of, suits_sign}
+use Rattle.mb_message.specs.Signs.{sign_of, suits_sign}
 use Rattle.mb_message.specs.declared.mark.Mark.{Mark}
 use Rattle.mb_message.specs.declared.mark.Mark.TheVariants.{Short, Rt, Open, Byte, End, Abort}
-use Rattle.mb_merge.specs.Links.{Link, Merger, link_at, link_of, owns, share, is_owned, owns_out}
+use Rattle.mb_merge.specs.Links.{Merger, link_of, is_owned}
 use Rattle.mb_merge.specs.Passing.{may_pass}
 use Rattle.mb_merge.specs.Calls.{IsExclusive}
 use Rattle.mb_merge.proofs.LinkLemmas.{is_owned_below-hit, takes_from_is, share-at, one_owner, and-true}
@@ -43,7 +43,7 @@ may-go m t mark is may fits = record {
     owned_not o x free closed here there open_x = ⊎_elim
         (λ (same : x ≡ t.source). true≢false (sym open_x ∙ (ap (opened_by m) same ∙ closed)))
         (λ (apart : x ≢ t.source). true≢false (sym (is_owned_below-hit m.links t.source x (length m.links) (open_within m.links x open_x)
-            (takes_from_is m.links t.source x apart (and-true _ _ open_x (share-at o (link_of m x).outs (link_of m t.source).outs there here)))) ∙ free))
+        (takes_from_is m.links t.source x apart (and-true _ _ open_x (share-at o (link_of m x).outs (link_of m t.source).outs there here)))) ∙ free))
         (same_or_not x t.source)
 
     out_by : (mark : Mark) → may_pass m.links t.source mark ≡ true → suits_sign (opened_by m t.source) (sign_of mark) ≡ true → suits_sign true (sign_of mark) ≡ false →

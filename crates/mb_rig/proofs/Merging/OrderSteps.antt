@@ -1,5 +1,5 @@
 -- Each call of the router keeps the report in order.
-use Rattle.std.proofs.Common.{◌≡◌, ◌≢◌, ◌⊎◌, inl, inr, ⊎_elim, ℕ, zero, suc, ◌+◌, ◌<◌, ◌≤◌, Bool, true, false, Option, Some, None, List, [], ◌∷◌, ◌++◌, length, map, drop, refl, ap, sym, subst, ◌∙◌, arith, append-nil, append_assoc}
+use Rattle.std.proofs.Common.{◌≡◌, ◌≢◌, inl, ⊎_elim, ℕ, zero, suc, ◌<◌, ◌≤◌, Bool, true, false, Option, Some, None, List, [], ◌∷◌, ◌++◌, length, map, drop, refl, ap, sym, subst, ◌∙◌, arith, append-nil, append_assoc}
 use Rattle.std.specs.Prelude.{◌&&◌, if◌then◌else◌, reverse, slice_get, slice_set}
 use Rattle.std.proofs.lemmas.Bool.Decides.{nat_tests}
 use Rattle.std.proofs.lemmas.List.{reverse-append}
@@ -13,9 +13,9 @@ use Rattle.mb_merge.specs.Passing.{opens, taken, after_pass, after_head}
 use Rattle.mb_rig.specs.Merging.Lines.{Key, is_below, arrival_of, Line}
 use Rattle.mb_rig.specs.Merging.Report.{Passing, fits_behind}
 use Rattle.mb_rig.specs.Merging.Orderly.{is_in_order, is_on_time, is_orderly}
-use Rattle.mb_rig.specs.Merging.Run.{Run, AtMost, Stood, Lateness, Drained, WasHeld}
+use Rattle.mb_rig.specs.Merging.Run.{AtMost, Stood, Lateness, Drained}
 use Rattle.mb_rig.specs.Merging.Routed.{key_of, run_of}
-use Rattle.mb_rig.specs.Merging.Tags.{Tag, PassedTag, Play, Plays, InTurn, IsHeldMark, report_of, line_of, takes, offered_goes, head_goes, is_realtime_sign}
+use Rattle.mb_rig.specs.Merging.Tags.{Tag, PassedTag, Play, Plays, report_of, line_of, takes, offered_goes, head_goes, is_realtime_sign}
 use Rattle.mb_rig.specs.Merging.Order.{Bounded, LineFits, Order, newest, sharing}
 use Rattle.mb_rig.proofs.Merging.Lateness as late
 use Rattle.mb_merge.proofs.Flows.{link_at-set_same, link_at-set_other}

@@ -111,9 +111,9 @@ outs-pass goes is_open ts t known may one = record {
         ⊎_elim
         (λ (same : s ≡ t.source). open-own is_open t s same ∙ closed-behind t.sign owner t.source (is_open s) (may_at o here) (λ f. known.closed o s f there) now)
         (λ (apart : s ≢ t.source). open-other is_open t s apart ∙ ⊎_elim
-            (λ (f : owner ≡ None). known.closed o s f there)
-            (λ (f : owner ≡ Some t.source). not_open (is_open s) refl (λ open_now. apart (one o s t.source open_now (known.owner o t.source f).0 there here)))
-            (other-owner t.sign owner t.source (may_at o here) now))
+        (λ (f : owner ≡ None). known.closed o s f there)
+        (λ (f : owner ≡ Some t.source). not_open (is_open s) refl (λ open_now. apart (one o s t.source open_now (known.owner o t.source f).0 there here)))
+        (other-owner t.sign owner t.source (may_at o here) now))
         (same_or_not s t.source)
       where
         not_open : (c : Bool) → is_open s ≡ c → (is_open s ≡ true → ⊥) → is_open s ≡ false
@@ -129,8 +129,8 @@ outs-pass goes is_open ts t known may one = record {
         let now : owner_behind owner t.source t.sign ≡ Some s = sym (owner-push None (to_out goes o ts) t) ∙ (ap (end_owner None) (sym (out-push goes o ts t here)) ∙ e) in
         ⊎_elim
         (λ (w : (owner ≡ Some s) × ((before : Bool) → before ≡ true → opens_sign before t.sign ≡ true)).
-            let k = known.owner o s w.0 in
-            (⊎_elim (λ (same : s ≡ t.source). open-own is_open t s same ∙ w.1 (is_open s) k.0) (λ (apart : s ≢ t.source). open-other is_open t s apart ∙ k.0) (same_or_not s t.source), k.1))
+        let k = known.owner o s w.0 in
+        (⊎_elim (λ (same : s ≡ t.source). open-own is_open t s same ∙ w.1 (is_open s) k.0) (λ (apart : s ≢ t.source). open-other is_open t s apart ∙ k.0) (same_or_not s t.source), k.1))
         (λ (w : (s ≡ t.source) × ((before : Bool) → opens_sign before t.sign ≡ true)). (open-own is_open t s w.0 ∙ w.1 (is_open s), ap (goes o) w.0 ∙ here))
         (owned-behind t.sign owner t.source s (may_at o here) now)
     owner_now o s false here e =

@@ -1,5 +1,5 @@
 -- Each call of the router keeps the places in order; what the tags of a reading say of their lines.
-use Rattle.std.proofs.Common.{◌≡◌, ◌≢◌, ◌⊎◌, inl, inr, ⊎_elim, ℕ, zero, suc, ◌+◌, ◌<◌, Bool, true, false, Option, Some, None, List, [], ◌∷◌, ◌++◌, map, drop, refl, ap, sym, subst, ◌∙◌, arith}
+use Rattle.std.proofs.Common.{◌≡◌, ◌≢◌, ◌⊎◌, inl, inr, ⊎_elim, ℕ, zero, suc, ◌+◌, ◌<◌, true, false, Option, Some, None, List, [], ◌∷◌, ◌++◌, map, drop, refl, ap, sym, subst, ◌∙◌, arith}
 use Rattle.std.specs.Prelude.{slice_get}
 use Rattle.std.proofs.lemmas.List.{map-append}
 use Rattle.mb_message.specs.Signs.{Sign, ShortSign, RtSign, OpenSign, ByteSign, EndSign, AbortSign}
@@ -9,7 +9,7 @@ use Rattle.mb_rig.specs.Merging.Tags.{Tag, Under, Play, tag_at, takes, offered_g
 use Rattle.mb_rig.specs.Merging.Order.{LineFits, newest}
 use Rattle.mb_rig.specs.Merging.Realtimes.{PlaceFits, IsLatest, places_of}
 use Rattle.mb_rig.specs.Merging.Unstalled.{OwnFits}
-use Rattle.mb_rig.specs.Merging.Places.{AreAbove, AreBelow, IsRising, Places}
+use Rattle.mb_rig.specs.Merging.Places.{AreBelow, IsRising, Places}
 use Rattle.mb_rig.proofs.Merging.Lateness.{none≢some, some_same, same_or_not, with_line}
 use Rattle.mb_rig.proofs.Merging.PlaySteps.{with_held-same, with_held-other}
 use Rattle.mb_rig.proofs.Merging.OrderSteps.{passing_of, newest-push}

@@ -1,10 +1,10 @@
 -- Each call of the router is a step of the tags: what is held and offered stays theirs, and none is lost.
-use Rattle.std.proofs.Common.{◌≡◌, ◌≢◌, ◌⊎◌, inl, inr, ⊎_elim, ℕ, zero, suc, ◌+◌, ◌<◌, Bool, true, false, Option, Some, None, List, [], ◌∷◌, ◌++◌, length, map, filter, drop, refl, ap, sym, subst, ◌∙◌, arith, append_assoc, append-nil}
+use Rattle.std.proofs.Common.{◌≡◌, ◌≢◌, ◌⊎◌, inl, inr, ⊎_elim, ℕ, ◌<◌, Bool, true, false, Option, Some, None, List, [], ◌∷◌, ◌++◌, length, map, filter, drop, refl, ap, sym, subst, ◌∙◌, arith, append_assoc, append-nil}
 use Rattle.std.specs.Prelude.{not, ◌&&◌, ◌==◌, if◌then◌else◌, slice_set}
 use Rattle.std.proofs.lemmas.Bool.Decides.{nat_tests}
 use Rattle.std.proofs.lemmas.List.{map-append}
 use Rattle.std.proofs.lemmas.List.Elements.{filter-append}
-use Rattle.mb_message.specs.Signs.{Sign, RtSign, sign_of}
+use Rattle.mb_message.specs.Signs.{sign_of}
 use Rattle.mb_message.specs.declared.mark.Mark.{Mark}
 use Rattle.mb_merge.specs.declared.source.Held.{Held}
 use Rattle.mb_merge.specs.declared.router.Passed.{Passed}
@@ -12,8 +12,7 @@ use Rattle.mb_merge.specs.Links.{Link, Merger, link_at, link_of}
 use Rattle.mb_merge.specs.Calls.{one}
 use Rattle.mb_merge.specs.Passing.{after_head, after_pass, taken, offered_mark}
 use Rattle.mb_merge.proofs.Flows.{link_at-set_same, link_at-set_other}
-use Rattle.mb_rig.specs.Merging.Lines.{Key}
-use Rattle.mb_rig.specs.Merging.Tags.{Tag, PassedTag, Play, Plays, InTurn, AreHeld, IsHeldMark, IsOffered, takes, offered_goes, head_goes, with_held, begins_play, tag_in_turn, tag_at_once, tags_passed, is_realtime_sign}
+use Rattle.mb_rig.specs.Merging.Tags.{Tag, PassedTag, Play, Plays, InTurn, AreHeld, IsHeldMark, takes, offered_goes, head_goes, with_held, begins_play, tag_in_turn, tag_at_once, tags_passed, is_realtime_sign}
 use Rattle.mb_rig.proofs.Merging.Lateness.{true≢false, same_or_not}
 
 -- lists of what is held

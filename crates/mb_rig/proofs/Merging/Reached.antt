@@ -1,20 +1,19 @@
 -- What holds of a router that calls led to from its opening.
-use Rattle.std.proofs.Common.{◌≡◌, ◌≢◌, ℕ, ◌<◌, ◌≤◌, ◌⊎◌, inl, inr, Bool, true, false, List, [], ◌∷◌, ◌++◌, length, map}
-use Rattle.std.proofs.Common.{Option, Some, None, get_or, refl, ap, sym, subst, ◌∙◌, arith}
+use Rattle.std.proofs.Common.{◌≡◌, ℕ, ◌<◌, Bool, true, false, List, [], ◌∷◌, ◌++◌, length, map}
+use Rattle.std.proofs.Common.{get_or, refl, ap, sym, subst, ◌∙◌, arith}
 use Rattle.std.specs.Prelude.{not, ◌&&◌, ◌||◌, ◌==◌, if◌then◌else◌}
-use Rattle.std.specs.List.{zip, list_any, range_with_len}
+use Rattle.std.specs.List.{list_any, range_with_len}
 use Rattle.std.proofs.lemmas.List.FromFn.{get_or-map-range_with_len}
 use Rattle.mb_message.specs.declared.mark.Mark.{Mark}
 use Rattle.mb_merge.specs.Links.{Link, Merger, closed_link, link_of, share}
 use Rattle.mb_merge.specs.Passing.{next_of, offered_in}
-use Rattle.mb_merge.specs.Opening.{opened, outs_of, stands_in}
+use Rattle.mb_merge.specs.Opening.{outs_of, stands_in}
 use Rattle.mb_merge.specs.Calls.{Call, Offer, Next, History, after_call, after_calls, begins, may_offer, taken_in}
-use Rattle.mb_merge.specs.Calls.{IsOrderly, IsSettled, IsTracked}
+use Rattle.mb_merge.specs.Calls.{IsSettled, IsTracked}
 use Rattle.mb_merge.proofs.Fits.{Fits}
 use Rattle.mb_merge.proofs.Histories.{Keeps, keeps-begins, keeps-call, opened-IsFresh, orderly}
 use Rattle.mb_merge.proofs.Tracks.{tracked, as_many}
 use Rattle.mb_rig.specs.RigText.{Setup}
-use Rattle.mb_rig.specs.Merging.Report as report
 use Rattle.mb_rig.specs.Merging.Routed.{Shares}
 use Rattle.mb_rig.specs.Merging.Order.{sharing}
 use Rattle.mb_rig.specs.Merging.Course.{IsReached, goes_out, start_of}

@@ -1,7 +1,6 @@
 -- Each call of the router keeps the third part of merged.
-use Rattle.std.proofs.Common.{◌≡◌, ◌≢◌, ◌⊎◌, inl, inr, ⊎_elim, ℕ, zero, suc, ◌<◌, Bool, true, false, Option, Some, None, List, [], ◌∷◌, ◌++◌, map, drop, take, refl, ap, sym, subst, ◌∙◌, arith, append-nil}
+use Rattle.std.proofs.Common.{◌≡◌, ◌≢◌, ⊎_elim, ℕ, ◌<◌, Bool, true, false, Option, Some, None, List, [], ◌∷◌, ◌++◌, map, drop, take, refl, ap, sym, subst, ◌∙◌, arith, append-nil}
 use Rattle.std.specs.Prelude.{not, ◌&&◌, ◌||◌, ◌==◌, nat_lt, reverse, slice_get, if◌then◌else◌}
-use Rattle.std.specs.List.{list_any}
 use Rattle.std.proofs.lemmas.Bool.Decides.{nat_tests}
 use Rattle.std.proofs.lemmas.List.{map-append}
 use Rattle.mb_rig.specs.Merging.Lines.{Key, is_realtime, is_sysex, Line}
@@ -9,7 +8,7 @@ use Rattle.mb_rig.specs.Merging.Report.{Passing, share, may_hold}
 use Rattle.mb_rig.specs.Merging.Merged.{overtakes, realtimes_fit, realtimes_merged}
 use Rattle.mb_rig.specs.Merging.Run.{Run, Stood, Drained}
 use Rattle.mb_rig.specs.Merging.Unbroken.{HasOwner, Overtaken}
-use Rattle.mb_rig.specs.Merging.Tags.{Tag, PassedTag, Play, report_of, line_of, takes, offered_goes, head_goes, with_held, is_realtime_sign}
+use Rattle.mb_rig.specs.Merging.Tags.{Tag, Play, report_of, line_of, takes, offered_goes, head_goes, is_realtime_sign}
 use Rattle.mb_rig.specs.Merging.Order.{LineFits, newest, sharing}
 use Rattle.mb_rig.specs.Merging.Realtimes.{RealtimesFit, PlaceFits, IsLatest, places_of, stands}
 use Rattle.mb_rig.proofs.Merging.Lateness.{true≢false, none≢some, some_same, same_or_not, true_or_not, with_line}

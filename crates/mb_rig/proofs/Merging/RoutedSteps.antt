@@ -1,12 +1,12 @@
 -- The calls of a router keep the third parts of merged and of orderly.
-use Rattle.std.proofs.Common.{◌≡◌, ◌≢◌, ◌⊎◌, inl, inr, ⊎_elim, ℕ, ◌<◌, Bool, true, false, Option, Some, None, List, [], ◌∷◌, ◌++◌, length, map, drop, refl, ap, sym, subst, ◌∙◌}
+use Rattle.std.proofs.Common.{◌≡◌, ◌≢◌, ◌⊎◌, ⊎_elim, ℕ, ◌<◌, Bool, true, false, Some, List, [], ◌∷◌, ◌++◌, length, map, drop, refl, ap, sym, subst, ◌∙◌}
 use Rattle.std.specs.Prelude.{slice_get, slice_set}
 use Rattle.std.proofs.lemmas.List.{map-append}
 use Rattle.mb_message.specs.Signs.{sign_of}
 use Rattle.mb_message.specs.declared.mark.Mark.{Mark}
 use Rattle.mb_message.specs.declared.mark.Mark.TheVariants.{Short, Rt, Open, Byte, End, Abort}
 use Rattle.mb_merge.specs.declared.source.Held.{Held}
-use Rattle.mb_merge.specs.Links.{Link, Merger, link_at, link_of}
+use Rattle.mb_merge.specs.Links.{Link, Merger, link_of}
 use Rattle.mb_merge.specs.Passing.{opens, taken, after_pass, after_head}
 use Rattle.mb_merge.proofs.Flows.{link_at-set_same, link_at-set_other}
 use Rattle.mb_rig.specs.Merging.Lines.{Key, arrival_of, is_sysex, Line}

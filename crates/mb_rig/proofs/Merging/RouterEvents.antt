@@ -1,6 +1,6 @@
 -- What a router does is an event of its run.
-use Rattle.std.proofs.Common.{◌≡◌, ◌≢◌, ◌⊎◌, inl, inr, ⊎_elim, ℕ, zero, suc, ◌<◌, Bool, true, false, Option, Some, None, List, [], ◌∷◌, ◌++◌, length, map, drop, refl, ap, sym, subst, ◌∙◌, arith}
-use Rattle.std.specs.Prelude.{not, ◌&&◌, ◌||◌, ◌==◌, nat_lt, slice_get, slice_set, if◌then◌else◌}
+use Rattle.std.proofs.Common.{◌≡◌, ◌≢◌, ⊎_elim, ℕ, zero, suc, ◌<◌, Bool, true, false, Option, Some, None, List, [], ◌∷◌, length, map, drop, refl, ap, sym, subst, ◌∙◌, arith}
+use Rattle.std.specs.Prelude.{not, ◌&&◌, ◌==◌, slice_get, slice_set}
 use Rattle.std.proofs.lemmas.Bool.Decides.{nat_tests}
 use Rattle.std.proofs.lemmas.List.{map-append}
 use Rattle.mb_message.specs.Signs.{sign_of, suits_sign}
@@ -8,16 +8,16 @@ use Rattle.mb_message.specs.declared.mark.Mark.{Mark}
 use Rattle.mb_message.specs.declared.mark.Mark.TheVariants.{Short, Rt, Open, Byte, End, Abort}
 use Rattle.mb_merge.specs.declared.source.Held.{Held}
 use Rattle.mb_merge.specs.declared.router.Passed.{Passed}
-use Rattle.mb_merge.specs.Links.{Link, Merger, link_at, link_of, owns, share, is_owned}
+use Rattle.mb_merge.specs.Links.{Link, Merger, link_at, link_of, share, is_owned}
 use Rattle.mb_merge.specs.Passing.{may_pass, is_realtime_mark, opens, taken, after_pass, after_head}
 use Rattle.mb_merge.specs.Calls.{IsSettled}
 use Rattle.mb_merge.proofs.Flows.{link_at-set_same, link_at-set_other}
 use Rattle.mb_merge.proofs.LinkLemmas.{is_owned_below-hit, is_owned_below-who, takes_from_is}
-use Rattle.mb_rig.specs.Merging.Lines.{Key, is_below}
+use Rattle.mb_rig.specs.Merging.Lines.{Key}
 use Rattle.mb_rig.specs.Merging.Report.{Passing}
 use Rattle.mb_rig.specs.Merging.Run.{Run, AtMost, Lateness, Drained}
 use Rattle.mb_rig.specs.Merging.Routed.{key_of, run_of, Shares}
-use Rattle.mb_rig.proofs.Merging.Lateness.{true≢false, none≢some, same_or_not, true_or_not, with_line, EndsBy, takes, passes_offered, passes_head}
+use Rattle.mb_rig.proofs.Merging.Lateness.{true≢false, same_or_not, true_or_not, with_line, EndsBy, takes, passes_offered, passes_head}
 
 and_left : (a b : Bool) → (a && b) ≡ true → a ≡ true
 and_left true b e = refl
@@ -68,8 +68,7 @@ drained_of shares m present stalled greatest report settled same owners full = r
         let in_range : x < length m.links = in_range_of m.links x h hs e in
         let owner = is_owned_below-who m.links x (length m.links) (settled.waits_for x h hs in_range e) in
         let apart : owner.at ≢ x = owner.other in
-        let differs : not (owner.at == x) ≡ true = grind (arith, nat_tests, apart) in
-        (
+        let differs : not (owner.at == x) ≡ true = grind (arith, nat_tests, apart) in (
           ⊎_elim (λ (now : (link_of m x).is_open ≡ true). absurd (some (settled.owners x in_range now))) (λ now. now) (true_or_not (link_of m x).is_open),
           (owner.at, and_left _ _ owner.owned, same owner.at x owner.below in_range ∙ (ap (λ b. b && share (link_of m owner.at).outs (link_of m x).outs) differs ∙ and_right _ _ owner.owned)),
         )

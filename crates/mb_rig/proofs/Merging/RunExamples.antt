@@ -1,10 +1,10 @@
 -- The definitions compute: two tapes whose links share an out, and two reports that aren't theirs.
-use Rattle.std.proofs.Common.{◌≡◌, ℕ, true, false, List, [], ◌∷◌, ◌++◌, refl}
+use Rattle.std.proofs.Common.{◌≡◌, ℕ, true, false, List, [], ◌∷◌, refl}
 use Rattle.mb_message.specs.Signs.{ShortSign, RtSign, OpenSign, ByteSign, EndSign}
 use Rattle.mb_stream.specs.Denotation.{Message, Syx, denotation}
-use Rattle.mb_stream.specs.Puts.{Put, At, signs_in}
+use Rattle.mb_stream.specs.Puts.{Put, At}
 use Rattle.mb_carrier.specs.declared.spec.Spec.TheVariants as spec
-use Rattle.mb_rig.specs.Merging.Lines.{Key, Line, Event, Ends, Realtime, Source, key_at, line_by, lines_of, marks_of}
+use Rattle.mb_rig.specs.Merging.Lines.{Line, Ends, Realtime, Source, key_at, line_by, lines_of, marks_of}
 use Rattle.mb_rig.specs.Merging.Report.{Passing, lines_to}
 use Rattle.mb_rig.specs.Merging.Merged.{AreOfSources, meant_by, realtimes_merged}
 use Rattle.mb_rig.specs.Merging.Orderly.{is_orderly, is_orderly_unstalled}

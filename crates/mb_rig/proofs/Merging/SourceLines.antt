@@ -1,7 +1,6 @@
 -- At the end of a run each source's lines stand in the report, in its order.
 use Rattle.std.proofs.Common.{◌≡◌, ℕ, ◌+◌, Bool, true, false, Option, Some, None, List, [], ◌∷◌, ◌++◌, map, filter, refl, ap, sym, ◌∙◌, arith, append-nil, append_assoc}
 use Rattle.std.specs.Prelude.{not, ◌&&◌, ◌==◌, if◌then◌else◌}
-use Rattle.std.specs.List.{flat_map}
 use Rattle.std.proofs.lemmas.List.Concat.{flat_map-append}
 use Rattle.std.proofs.lemmas.List.Elements.{filter-append}
 use Rattle.mb_message.specs.Signs.{Sign, ShortSign, RtSign, OpenSign, ByteSign, EndSign, AbortSign}
@@ -132,7 +131,7 @@ kind-heard source of_line of_sign u (m ∷ ms) same =
     by_line : (line : Option Line) → line_at source u m.0 m.1 ≡ line → (c : Bool) → of_sign m.1 ≡ c →
         filter (λ (l : Line). of_line l.event) (lines_heard (tags_from source (under_after u m.0 m.1) ms)) ≡ lines_heard (filter (λ (t : Tag). of_sign t.sign) (tags_from source (under_after u m.0 m.1) ms)) →
         filter (λ (l : Line). of_line l.event) (lines_heard (tag_at source u m.0 m.1 ∷ tags_from source (under_after u m.0 m.1) ms))
-            ≡ lines_heard (filter (λ (t : Tag). of_sign t.sign) (tag_at source u m.0 m.1 ∷ tags_from source (under_after u m.0 m.1) ms))
+        ≡ lines_heard (filter (λ (t : Tag). of_sign t.sign) (tag_at source u m.0 m.1 ∷ tags_from source (under_after u m.0 m.1) ms))
     by_line None e true f rest =
         ap (λ (o : Option Line). filter (λ (l : Line). of_line l.event) ((elim o [ None ↦ [] | Some l ↦ l ∷ [] ]) ++ lines_heard (tags_from source (under_after u m.0 m.1) ms))) e
         ∙ (rest ∙ sym (ap lines_heard (filter-cons (λ (t : Tag). of_sign t.sign) (tag_at source u m.0 m.1) (tags_from source (under_after u m.0 m.1) ms) true f)
@@ -230,11 +229,12 @@ lines-append x puts more = (
 kind-front : (kind : Line → Bool) (x : ℕ) (puts all : List Put) (passed waits : List Line) → IsFront puts all →
     filter kind (lines_of x puts) ≡ passed ++ waits → IsFront passed (filter kind (lines_of x all))
 kind-front kind x puts all passed waits front is =
-    let more = lines-append x puts front.0 in
-    (waits ++ filter kind more.0,
-    ap (λ ps. filter kind (lines_of x ps)) front.1 ∙ (ap (filter kind) more.1
-    ∙ (filter-append kind (lines_of x puts) more.0
-    ∙ (ap (λ ls. ls ++ filter kind more.0) is ∙ append_assoc passed waits (filter kind more.0)))))
+    let more = lines-append x puts front.0 in (
+      waits ++ filter kind more.0,
+      ap (λ ps. filter kind (lines_of x ps)) front.1 ∙ (ap (filter kind) more.1
+          ∙ (filter-append kind (lines_of x puts) more.0
+          ∙ (ap (λ ls. ls ++ filter kind more.0) is ∙ append_assoc passed waits (filter kind more.0)))),
+    )
 
 -- Where a run stopped: what was taken is a front of the source's marks.
 pub front-of-source : (p : Play) (x : ℕ) (puts all : List Put) → InTurn p → p.offered ≡ None → IsFront puts all →

@@ -1,12 +1,12 @@
 -- Each event of a run without stalls keeps it unbroken.
-use Rattle.std.proofs.Common.{◌≡◌, ◌≢◌, ◌⊎◌, inl, inr, ⊎_elim, ℕ, zero, suc, ◌<◌, Bool, true, false, Option, Some, None, List, [], ◌∷◌, ◌++◌, refl, ap, sym, subst, ◌∙◌, arith}
-use Rattle.std.specs.Prelude.{◌&&◌, ◌||◌, ◌==◌, nat_lt, slice_get, if◌then◌else◌}
+use Rattle.std.proofs.Common.{◌≡◌, ◌≢◌, ◌⊎◌, inl, inr, ⊎_elim, ℕ, zero, suc, Bool, true, false, Option, Some, None, List, [], ◌∷◌, ◌++◌, refl, ap, sym, subst, ◌∙◌, arith}
+use Rattle.std.specs.Prelude.{slice_get}
 use Rattle.std.proofs.lemmas.Bool.Decides.{nat_tests}
-use Rattle.mb_rig.specs.Merging.Lines.{Key, is_below, is_sysex, Line}
+use Rattle.mb_rig.specs.Merging.Lines.{Key, is_below, is_sysex}
 use Rattle.mb_rig.specs.Merging.Report.{Passing}
 use Rattle.mb_rig.specs.Merging.Run.{Run, AtMost, Stood, Drained}
 use Rattle.mb_rig.specs.Merging.Unbroken.{HasOwner, IsHeld, Unbroken}
-use Rattle.mb_rig.proofs.Merging.Lateness.{true≢false, none≢some, some_same, same_or_not, true_or_not, below_at_most, at_most_trans, same_key, stood_line, with_line}
+use Rattle.mb_rig.proofs.Merging.Lateness.{true≢false, none≢some, some_same, same_or_not, true_or_not, at_most_trans, stood_line, with_line}
 
 below_is : (a b : Key) → is_below a b ≡ true → AtMost a b
 below_is a b e = grind (arith, nat_tests)
@@ -109,9 +109,9 @@ passes_offered shares begin_of begin_then r is_open q i known others opens ends 
     keep x h is c to (inr w) = ⊎_elim
         (λ (now : is_open w.1.0 ≡ true). inr (closed x h is w.0, (w.1.0, now, w.1.2, w.1.3, subst (λ z. AtMost z c) (sym (begin_same w.1.0 w.1.1 now)) w.1.4)))
         (λ now. inl (⊎_elim
-            (λ (e : w.1.0 ≡ i). ends_line shares r.report i x (begin_of i) r.greatest c q (ends (ap r.is_open (sym e) ∙ w.1.1) (ap is_open (sym e) ∙ now)) (ap (λ o. shares o x) (sym e) ∙ w.1.3) (subst (λ o. AtMost (begin_of o) c) e w.1.4) to)
-            (λ apart. absurd (true≢false (sym w.1.1 ∙ sym (others w.1.0 apart).0 ∙ now)))
-            (same_or_not w.1.0 i)))
+        (λ (e : w.1.0 ≡ i). ends_line shares r.report i x (begin_of i) r.greatest c q (ends (ap r.is_open (sym e) ∙ w.1.1) (ap is_open (sym e) ∙ now)) (ap (λ o. shares o x) (sym e) ∙ w.1.3) (subst (λ o. AtMost (begin_of o) c) e w.1.4) to)
+        (λ apart. absurd (true≢false (sym w.1.1 ∙ sym (others w.1.0 apart).0 ∙ now)))
+        (same_or_not w.1.0 i)))
         (true_or_not (is_open w.1.0))
 
 -- a held line that passes: at each key from its own to the greatest one had held it back

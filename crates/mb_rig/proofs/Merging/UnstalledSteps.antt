@@ -1,17 +1,17 @@
 -- Each call of the router keeps the third part of orderly, where no link was ever stalled.
-use Rattle.std.proofs.Common.{◌≡◌, ◌≢◌, ◌⊎◌, inl, inr, ⊎_elim, ℕ, zero, suc, ◌≤◌, Bool, true, false, Option, Some, None, List, [], ◌∷◌, ◌++◌, drop, refl, ap, sym, subst, ◌∙◌, arith, append-nil}
-use Rattle.std.specs.Prelude.{not, ◌&&◌, ◌||◌, ◌==◌, reverse, slice_get}
+use Rattle.std.proofs.Common.{◌≡◌, ◌≢◌, ◌⊎◌, ℕ, zero, suc, Bool, true, false, Option, Some, None, List, [], ◌∷◌, ◌++◌, refl, ap, sym, subst, ◌∙◌, arith, append-nil}
+use Rattle.std.specs.Prelude.{reverse, slice_get}
 use Rattle.std.proofs.lemmas.Bool.Decides.{nat_tests}
-use Rattle.mb_rig.specs.Merging.Lines.{Key, is_below, arrival_of, is_realtime, is_sysex, Line}
+use Rattle.mb_rig.specs.Merging.Lines.{Key, is_below, arrival_of, is_sysex, Line}
 use Rattle.mb_rig.specs.Merging.Report.{Passing}
 use Rattle.mb_rig.specs.Merging.Orderly.{is_held_back, is_orderly_unstalled}
-use Rattle.mb_rig.specs.Merging.Run.{Run, AtMost, Stood, Drained}
-use Rattle.mb_rig.specs.Merging.Unbroken.{HasOwner, IsHeld, Unbroken}
-use Rattle.mb_rig.specs.Merging.Tags.{Tag, PassedTag, Play, report_of, line_of, takes, offered_goes, head_goes, is_realtime_sign}
+use Rattle.mb_rig.specs.Merging.Run.{AtMost, Stood, Drained}
+use Rattle.mb_rig.specs.Merging.Unbroken.{IsHeld, Unbroken}
+use Rattle.mb_rig.specs.Merging.Tags.{Tag, Play, report_of, line_of, takes, offered_goes, head_goes, is_realtime_sign}
 use Rattle.mb_rig.specs.Merging.Order.{Bounded, LineFits, newest, sharing}
 use Rattle.mb_rig.specs.Merging.Realtimes.{PlaceFits}
 use Rattle.mb_rig.specs.Merging.Unstalled.{UnstalledOrder, IsOwn, OwnFits, stands_at}
-use Rattle.mb_rig.proofs.Merging.Lateness.{true≢false, none≢some, some_same, at_most_trans, with_line}
+use Rattle.mb_rig.proofs.Merging.Lateness.{true≢false, some_same, at_most_trans, with_line}
 use Rattle.mb_rig.proofs.Merging.Unbroken as unbroken
 use Rattle.mb_rig.proofs.Merging.InOrder.{all_of, implied, held_back, moment_at_most}
 use Rattle.mb_rig.proofs.Merging.OrderSteps.{passing_of, report-push, newest-push, each_fits-push, bounded-line, both}

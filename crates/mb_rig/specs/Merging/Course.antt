@@ -12,14 +12,13 @@
 --   Offering ..              what is known of the mark just offered, until it passes
 --   Course s m links K play  the router plays the tags; the report is merged and in order so far; what went to each out
 --                            may stand there; the tags that were taken are those of the marks given
-use Rattle.std.specs.Prelude.{◌≡◌, ◌≢◌, ℕ, ◌+◌, ◌<◌, ◌≤◌, Bool, true, false, ◌==◌, if◌then◌else◌, List, [], ◌∷◌, ◌++◌}
+use Rattle.std.specs.Prelude.{◌≡◌, ◌≢◌, ℕ, ◌<◌, ◌≤◌, Bool, true, false, ◌==◌, if◌then◌else◌, List, [], ◌∷◌, ◌++◌}
 use Rattle.std.specs.Prelude.{length, filter, Option, Some, None}
 use Rattle.mb_message.specs.declared.mark.Mark.{Mark}
 use Rattle.mb_message.specs.Signs.{Sign, sign_of, suits_sign}
 use Rattle.mb_stream.specs.Puts.{Put, At, signs_in}
 use Rattle.mb_stream.specs.Standing.{is_open}
 use Rattle.mb_merge.specs.declared.source.Held.{Held}
-use Rattle.mb_merge.specs.declared.router.Passed.{Passed}
 use Rattle.mb_merge.specs.Links.{Merger, link_of}
 use Rattle.mb_merge.specs.Opening.{opened}
 use Rattle.mb_merge.specs.Passing.{has_room}
@@ -29,7 +28,7 @@ use Rattle.mb_rig.specs.Merging.Lines.{Key, Line, arrival_of, is_below, is_sysex
 use Rattle.mb_rig.specs.Merging.Run.{AtMost}
 use Rattle.mb_rig.specs.Merging.Unbroken.{HasOwner}
 use Rattle.mb_rig.specs.Merging.Routed.{open_of, keys_of}
-use Rattle.mb_rig.specs.Merging.Tags.{Tag, Play, AreTags, IsOffered, IsTag, is_realtime_sign, is_tag_of, tags_of, tags_passed, tag_at, under_of}
+use Rattle.mb_rig.specs.Merging.Tags.{Tag, Play, AreTags, IsTag, is_realtime_sign, is_tag_of, tags_of, tags_passed, tag_at, under_of}
 use Rattle.mb_rig.specs.Merging.Tags.{RisesFrom, begin_of}
 use Rattle.mb_rig.specs.Merging.Order.{Order, sharing}
 use Rattle.mb_rig.specs.Merging.Realtimes.{RealtimesFit, IsLatest, places_of, stands}

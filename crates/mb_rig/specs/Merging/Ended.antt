@@ -7,7 +7,7 @@
 --   IsMergedFront s ss r     where a run stopped: fronts of each source's lines, in order
 --   MeansSoFar signs lines   what the marks at an out mean: what the lines to it mean, and a last broken SysEx where one
 --                            is open there
-use Rattle.std.specs.Prelude.{◌≡◌, ℕ, ◌+◌, Bool, true, false, not, List, [], ◌∷◌, ◌++◌, map, filter, Option}
+use Rattle.std.specs.Prelude.{◌≡◌, ℕ, ◌+◌, true, not, List, [], ◌∷◌, ◌++◌, map, filter, Option}
 use Rattle.mb_message.specs.Front.{IsFront}
 use Rattle.mb_message.specs.Signs.{Sign}
 use Rattle.mb_stream.specs.Puts.{Put, At}

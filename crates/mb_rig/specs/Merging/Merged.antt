@@ -11,7 +11,7 @@ use Rattle.std.specs.List.{list_any}
 use Rattle.mb_stream.specs.Denotation.{Meant, Message, Syx, Broken, Timed, Denotation}
 use Rattle.mb_stream.specs.Puts.{Put}
 use Rattle.mb_message.specs.Front.{IsFront}
-use Rattle.mb_rig.specs.Merging.Lines.{Event, Ends, Realtime, is_realtime, Line, lines_of, Source, marks_of}
+use Rattle.mb_rig.specs.Merging.Lines.{Ends, Realtime, is_realtime, Line, lines_of, Source, marks_of}
 use Rattle.mb_rig.specs.Merging.Report.{Passing, lines_in, may_hold, each_fits}
 
 abbrev pub in_turn : Line → Bool

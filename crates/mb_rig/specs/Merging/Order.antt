@@ -2,14 +2,14 @@
 --
 --   newest p             the report, newest first
 --   Order routes m p ..    the router plays the tags, and the report stands in order
-use Rattle.std.specs.Prelude.{◌≡◌, ◌≤◌, ℕ, Bool, true, not, ◌&&◌, ◌==◌, List, reverse, map, Option, Some, None, slice_get}
+use Rattle.std.specs.Prelude.{◌≡◌, ◌≤◌, ℕ, Bool, true, not, ◌&&◌, ◌==◌, List, reverse, map, Option, Some, slice_get}
 use Rattle.mb_merge.specs.Links.{Merger, link_of}
 use Rattle.mb_rig.specs.Merging.Lines.{Key, arrival_of, Line}
 use Rattle.mb_rig.specs.Merging.Report.{Passing, share}
 use Rattle.mb_rig.specs.Merging.Orderly.{is_orderly}
 use Rattle.mb_rig.specs.Merging.Run.{AtMost, Lateness}
 use Rattle.mb_rig.specs.Merging.Routed.{key_of, run_of}
-use Rattle.mb_rig.specs.Merging.Tags.{Tag, PassedTag, Play, Plays, InTurn, report_of}
+use Rattle.mb_rig.specs.Merging.Tags.{Tag, Play, Plays, InTurn, report_of}
 
 abbrev pub newest : Play → List Passing
 newest p = reverse (report_of p.passed)

@@ -2,7 +2,7 @@
 --
 --   Passes s was m links K play q     a mark passed, whose tag it is, at the greatest key's moment
 --   PassesOn ..                       a mark passed, or the router is drained
-use Rattle.std.specs.Prelude.{◌≡◌, ℕ, List, [], ◌∷◌, ◌++◌, Option, Some, None}
+use Rattle.std.specs.Prelude.{◌≡◌, [], ◌∷◌, ◌++◌, Option, Some, None}
 use Rattle.mb_merge.specs.declared.router.Passed.{Passed}
 use Rattle.mb_merge.specs.Links.{Merger}
 use Rattle.mb_rig.specs.RigText.{Setup}

@@ -1,5 +1,5 @@
 -- The places of what is held and of what has passed, `next` being how many marks of each source were taken.
-use Rattle.std.specs.Prelude.{◌≡◌, ◌≢◌, ℕ, ◌<◌, List, [], ◌∷◌, Option, Some, slice_get}
+use Rattle.std.specs.Prelude.{◌≡◌, ◌≢◌, ℕ, ◌<◌, List, [], ◌∷◌, Some, slice_get}
 use Rattle.mb_rig.specs.Merging.Report.{Passing}
 use Rattle.mb_rig.specs.Merging.Tags.{Play}
 use Rattle.mb_rig.specs.Merging.Order.{newest}

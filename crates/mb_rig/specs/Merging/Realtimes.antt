@@ -5,7 +5,7 @@
 --   PlaceFits t              a tag's line, if it completes one, has its place, and is real-time where its sign is
 --   IsLatest p t             each line of the tag's source in the report has a lower place
 --   RealtimesFit routes p ..       the third part of merged holds of the report, and what its next lines need
-use Rattle.std.specs.Prelude.{◌≡◌, ℕ, ◌<◌, Bool, true, false, List, map, Option, Some, None, slice_get}
+use Rattle.std.specs.Prelude.{◌≡◌, ℕ, ◌<◌, Bool, true, false, List, map, Some, None, slice_get}
 use Rattle.mb_rig.specs.Merging.Lines.{Key, no_key, is_realtime, Line}
 use Rattle.mb_rig.specs.Merging.Report.{Passing}
 use Rattle.mb_rig.specs.Merging.Merged.{realtimes_merged}

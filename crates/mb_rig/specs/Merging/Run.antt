@@ -1,5 +1,5 @@
 -- What holds of a run between any two marks that pass.
-use Rattle.std.specs.Prelude.{◌≡◌, ◌≢◌, ◌⊎◌, ℕ, Bool, true, false, List, [], ◌∷◌, Option, Some, None, slice_get}
+use Rattle.std.specs.Prelude.{◌≡◌, ◌≢◌, ◌⊎◌, ℕ, Bool, true, false, List, [], Option, Some, slice_get}
 use Rattle.mb_rig.specs.Merging.Lines.{Key, is_below, is_sysex, Line}
 use Rattle.mb_rig.specs.Merging.Report.{Passing}
 

@@ -1,6 +1,6 @@
 -- What holds of a run in which no link was ever stalled.
 use Rattle.std.specs.Prelude.{◌≡◌, ◌⊎◌, ℕ, ◌<◌, Bool, true, false, List, [], take, Some, slice_get}
-use Rattle.mb_rig.specs.Merging.Lines.{Key, is_below, is_realtime, Line}
+use Rattle.mb_rig.specs.Merging.Lines.{Key, is_realtime}
 use Rattle.mb_rig.specs.Merging.Report.{Passing}
 use Rattle.mb_rig.specs.Merging.Run.{Run, AtMost, Stood}
 

@@ -3,7 +3,7 @@
 --   stands_at p .. K         the run that a play is, of what its router tells, K being the greatest key
 --   IsOwn line               the keys of a line are of its source's link
 --   UnstalledOrder routes p ..   the third part of orderly holds of the report, and what its next lines need
-use Rattle.std.specs.Prelude.{◌≡◌, ℕ, Bool, true, false, List, Option, Some, None, slice_get}
+use Rattle.std.specs.Prelude.{◌≡◌, ℕ, Bool, true, false, List, Some, None, slice_get}
 use Rattle.mb_rig.specs.Merging.Lines.{Key, Line}
 use Rattle.mb_rig.specs.Merging.Report.{Passing}
 use Rattle.mb_rig.specs.Merging.Orderly.{is_orderly_unstalled}
