@@ -1,5 +1,6 @@
 -- Each event of a run in which no link was ever stalled keeps it calm.
-use Rattle.std.proofs.Common.{◌≡◌, ◌≢◌, ◌⊎◌, inl, inr, ⊎_elim, ℕ, ◌<◌, Bool, true, false, List, [], ◌∷◌, ◌++◌, length, map}
+use Rattle.std.proofs.Common.{◌≡◌, ◌≢◌, ◌⊎◌, inl, inr, ⊎_elim, ℕ, ◌<◌, Bool, true, false, List, [], ◌∷◌, ◌++◌, length}
+use Rattle.std.proofs.Common.{map}
 use Rattle.std.proofs.Common.{filter, Option, Some, None, refl, ap, sym, subst, ◌∙◌, arith, append-nil}
 use Rattle.std.specs.Prelude.{not, ◌&&◌, ◌||◌, ◌==◌, nat_lt, if◌then◌else◌, slice_get, slice_set}
 use Rattle.std.proofs.lemmas.Bool.Decides.{nat_tests}
@@ -10,7 +11,8 @@ use Rattle.mb_message.specs.Signs.{Sign, sign_of, suits_sign, ShortSign, RtSign,
 use Rattle.mb_merge.specs.declared.source.Held.{Held}
 use Rattle.mb_merge.specs.declared.router.Passed.{Passed}
 use Rattle.mb_merge.specs.Links.{Merger, HasSource, link_of, is_owned, share}
-use Rattle.mb_merge.specs.Passing.{is_realtime_mark, may_pass, opens, passes_now, offered_in, after_pass, after_head, taken}
+use Rattle.mb_merge.specs.Passing.{is_realtime_mark, may_pass, opens, passes_now, offered_in, after_pass, after_head}
+use Rattle.mb_merge.specs.Passing.{taken}
 use Rattle.mb_merge.specs.Calls.{IsClosed}
 use Rattle.mb_merge.proofs.Fits.{Fits, waits-why}
 use Rattle.mb_merge.proofs.Flows.{NoRealtime}
@@ -34,7 +36,8 @@ use Rattle.mb_rig.proofs.Merging.PlaySteps.{passed-push}
 use Rattle.mb_rig.proofs.Merging.SourceLines.{filter-cons}
 use Rattle.mb_rig.proofs.Merging.RouterEvents.{no_owner}
 use Rattle.mb_rig.proofs.Merging.UnstalledSteps.{unstalled-begins}
-use Rattle.mb_rig.proofs.Merging.RoutedSteps.{unstalled_routed-accepts, unstalled_routed-takes, unstalled_routed-offered}
+use Rattle.mb_rig.proofs.Merging.RoutedSteps.{unstalled_routed-accepts, unstalled_routed-takes}
+use Rattle.mb_rig.proofs.Merging.RoutedSteps.{unstalled_routed-offered}
 use Rattle.mb_rig.proofs.Merging.RoutedSteps.{unstalled_routed-head, with_link}
 use Rattle.mb_rig.proofs.Merging.PlaceSteps.{tag_at-own}
 use Rattle.mb_rig.proofs.Merging.Reached.{reached-fits, reached-settled, reached-shares, reached-sources}
@@ -57,25 +60,31 @@ turn-other x t apart = ap (λ c. c && not (is_realtime_sign t.sign)) (differ t.s
     differ : (a b : ℕ) → a ≢ b → (a == b) ≡ false
     differ a b e = grind (arith, nat_tests, e)
 
-begin-push : (begin : Key) (ts : List Tag) (t : Tag) → begin_behind begin (ts ++ t ∷ []) ≡ begin_then (begin_behind begin ts) t
+begin-push : (begin : Key) (ts : List Tag) (t : Tag) → begin_behind begin (ts ++ t ∷ []) ≡ begin_then
+    (begin_behind begin ts) t
 begin-push begin [] t = refl
 begin-push begin (u ∷ us) t = begin-push (begin_then begin u) us t
 
 turns-push : (x : ℕ) (ts : List Tag) (t : Tag) (c : Bool) → tag_in_turn x t ≡ c →
     filter (tag_in_turn x) (ts ++ t ∷ []) ≡ filter (tag_in_turn x) ts ++ (if c then t ∷ [] else [])
-turns-push x ts t c e = filter-append (tag_in_turn x) ts (t ∷ []) ∙ ap (λ us. filter (tag_in_turn x) ts ++ us) (filter-cons (tag_in_turn x) t [] c e)
+turns-push x ts t c e = filter-append (tag_in_turn x) ts (t ∷ []) ∙ ap (λ us. filter (tag_in_turn x) ts ++ us)
+    (filter-cons (tag_in_turn x) t [] c e)
 
 begin-other : (play : Play) (t : Tag) (moment : ℕ) (x : ℕ) → x ≢ t.source →
-    begin_behind (no_key x) (filter (tag_in_turn x) (map (λ (y : PassedTag). y.tag) (play.passed ++ (record { tag = t; moment = moment }) ∷ [])))
+    begin_behind (no_key x) (filter (tag_in_turn x) (map (λ (y : PassedTag). y.tag)
+    (play.passed ++ (record { tag = t; moment = moment }) ∷ [])))
     ≡ begin_of play x
-begin-other play t moment x apart = ap (λ ts. begin_behind (no_key x) (filter (tag_in_turn x) ts)) (passed-push play t moment)
+begin-other play t moment x apart = ap (λ ts. begin_behind (no_key x) (filter (tag_in_turn x) ts))
+    (passed-push play t moment)
     ∙ (ap (begin_behind (no_key x)) (turns-push x (tags_passed play) t false (turn-other x t apart))
     ∙ ap (begin_behind (no_key x)) (append-nil (filter (tag_in_turn x) (tags_passed play))))
 
 begin-own : (play : Play) (t : Tag) (moment : ℕ) →
-    begin_behind (no_key t.source) (filter (tag_in_turn t.source) (map (λ (y : PassedTag). y.tag) (play.passed ++ (record { tag = t; moment = moment }) ∷ [])))
+    begin_behind (no_key t.source) (filter (tag_in_turn t.source)
+    (map (λ (y : PassedTag). y.tag) (play.passed ++ (record { tag = t; moment = moment }) ∷ [])))
     ≡ begin_at (begin_of play t.source) t.key t.sign
-begin-own play t moment = ap (λ ts. begin_behind (no_key t.source) (filter (tag_in_turn t.source) ts)) (passed-push play t moment)
+begin-own play t moment = ap (λ ts. begin_behind (no_key t.source) (filter (tag_in_turn t.source) ts))
+    (passed-push play t moment)
     ∙ by_kind (is_realtime_sign t.sign) refl
   where
     silent : (begin key : Key) (m : Sign) → is_realtime_sign m ≡ true → begin_at begin key m ≡ begin
@@ -87,11 +96,14 @@ begin-own play t moment = ap (λ ts. begin_behind (no_key t.source) (filter (tag
     silent begin key AbortSign e = refl
 
     by_kind : (rt : Bool) → is_realtime_sign t.sign ≡ rt →
-        begin_behind (no_key t.source) (filter (tag_in_turn t.source) (tags_passed play ++ t ∷ [])) ≡ begin_at (begin_of play t.source) t.key t.sign
-    by_kind true e = ap (begin_behind (no_key t.source)) (turns-push t.source (tags_passed play) t false (turn-own t ∙ ap not e))
+        begin_behind (no_key t.source) (filter (tag_in_turn t.source) (tags_passed play ++ t ∷ [])) ≡ begin_at
+        (begin_of play t.source) t.key t.sign
+    by_kind true e = ap (begin_behind (no_key t.source))
+        (turns-push t.source (tags_passed play) t false (turn-own t ∙ ap not e))
         ∙ (ap (begin_behind (no_key t.source)) (append-nil (filter (tag_in_turn t.source) (tags_passed play)))
         ∙ sym (silent (begin_of play t.source) t.key t.sign e))
-    by_kind false e = ap (begin_behind (no_key t.source)) (turns-push t.source (tags_passed play) t true (turn-own t ∙ ap not e))
+    by_kind false e = ap (begin_behind (no_key t.source))
+        (turns-push t.source (tags_passed play) t true (turn-own t ∙ ap not e))
         ∙ begin-push (no_key t.source) (filter (tag_in_turn t.source) (tags_passed play)) t
 
 -- a mark opens a SysEx, or one is open already and stays the same
@@ -115,10 +127,12 @@ stays-open b End m begin key is was fit = ap (begin_at begin key) (sym is)
 stays-open b Abort m begin key is was fit = ap (begin_at begin key) (sym is)
 
 pub tag-own : (t : Tag) → IsTag t → OwnFits t
-tag-own t is l e = tag_at-own t.source is.under t.key t.sign is.link is.begun l (ap (λ (x : Tag). x.line) (sym is.is) ∙ e)
+tag-own t is l e = tag_at-own t.source is.under t.key t.sign is.link is.begun l
+    (ap (λ (x : Tag). x.line) (sym is.is) ∙ e)
 
 -- what `begins` needs: the step's key isn't below the greatest
-pub calm-begins : (s : Setup) (m : Merger) (links : Links) (K : Key) (play : Play) (x : ℕ) (k : Key) → Course s m links K play →
+pub calm-begins : (s : Setup) (m : Merger) (links : Links) (K : Key) (play : Play) (x : ℕ) (k : Key) →
+    Course s m links K play →
     Calm s m links K play → m.draining ≡ false → links.present x ≡ Some k → IsLeastKey links k →
     Calm s m links (greater K k) play
 calm-begins s m links K play x k course calm quiet here least = by_test (is_below K k) refl
@@ -131,7 +145,8 @@ calm-begins s m links K play x k course calm quiet here least = by_test (is_belo
     by_test true e = record {
       free = calm.free;
       ahead = λ y c f. least y c (calm.free y) f;
-      order = unstalled-begins s.routes play (open_of m) (keys_of m) links.present links.stalled (begin_of play) K k calm.order
+      order = unstalled-begins s.routes play (open_of m) (keys_of m) links.present links.stalled (begin_of play) K k
+          calm.order
           (course-drained s m links K play course quiet) (calm.ahead x k here);
     }
 
@@ -183,9 +198,11 @@ held-owned s m x mark reached quiet below fit waits = by_held (link_of m x).held
 
     no_pass : (link_of m x).held ≡ [] → may_pass m.links x mark ≡ false
     no_pass none = sym (ap (λ hs. (length hs == 0) && may_pass m.links x mark) none)
-        ∙ (ap (λ b. b || ((length (link_of m x).held == 0) && may_pass m.links x mark)) (sym (waits-why m x mark waits)) ∙ waits)
+        ∙ (ap (λ b. b || ((length (link_of m x).held == 0) && may_pass m.links x mark)) (sym (waits-why m x mark waits))
+        ∙ waits)
 
-    by_mark : (mk : Mark) → suits_sign false (sign_of mk) ≡ true → is_realtime_mark mk ≡ false → may_pass m.links x mk ≡ false →
+    by_mark : (mk : Mark) → suits_sign false (sign_of mk) ≡ true → is_realtime_mark mk ≡ false →
+        may_pass m.links x mk ≡ false →
         is_owned m.links x ≡ true
     by_mark (Short y) fit calm e = not_false (is_owned m.links x) e
     by_mark (Rt y) fit calm e = absurd (true≢false calm)
@@ -248,9 +265,11 @@ calm-offered s m links K play q t course calm is_q is_t own sign = record {
   free = calm.free;
   ahead = calm.ahead;
   order = subst (λ y. UnstalledOrder s.routes (offered_goes play t (arrival_of K))
-      (open_of (with_link m y (after_pass (link_of m y) q.mark))) (keys_of (with_link m y (after_pass (link_of m y) q.mark)))
+      (open_of (with_link m y (after_pass (link_of m y) q.mark)))
+      (keys_of (with_link m y (after_pass (link_of m y) q.mark)))
       (begin_of (offered_goes play t (arrival_of K))) K) (sym own)
-      (unstalled_routed-offered s.routes m play t q.mark (begin_of play) (begin_of (offered_goes play t (arrival_of K))) K
+      (unstalled_routed-offered s.routes m play t q.mark (begin_of play) (begin_of (offered_goes play t (arrival_of K)))
+      K
       calm.order below at (tag-line t tag) (tag-own t tag) (λ y apart. begin-other play t (arrival_of K) y apart)
       opening ending staying);
 }
@@ -262,19 +281,22 @@ calm-offered s m links K play q t course calm is_q is_t own sign = record {
     tag = (course.offering t is_t).is_tag
 
     below : t.source < length m.links
-    below = subst (λ y. y < length m.links) own (subst (HasSource m.links) is_q (reached-fits s m course.reached).source)
+    below = subst (λ y. y < length m.links) own (subst (HasSource m.links) is_q
+        (reached-fits s m course.reached).source)
 
     at : t.key ≡ K
     at = same_key t.key K (course.offering t is_t).within (calm.ahead t.source t.key (course.offering t is_t).here)
 
     opening : opens (link_of m t.source).is_open q.mark ≡ true → (keys_of m t.source ≡ []) ×
-        ((((link_of m t.source).is_open ≡ true) × (begin_of (offered_goes play t (arrival_of K)) t.source ≡ begin_of play t.source))
+        ((((link_of m t.source).is_open ≡ true) × (begin_of (offered_goes play t (arrival_of K)) t.source ≡ begin_of
+        play t.source))
         ⊎ (begin_of (offered_goes play t (arrival_of K)) t.source ≡ K))
     opening e = (
       ap (map (key_of t.source)) (offer.opening (ap (opens_sign (open_of m t.source)) (sym sign)
           ∙ (mark-opens (link_of m t.source).is_open q.mark ∙ e))),
       ⊎_elim
-          (λ (w : ((link_of m t.source).is_open ≡ true) × (begin_at (begin_of play t.source) t.key t.sign ≡ begin_of play t.source)).
+          (λ (w : ((link_of m t.source).is_open ≡ true) ×
+          (begin_at (begin_of play t.source) t.key t.sign ≡ begin_of play t.source)).
           inl (w.0, begin-own play t (arrival_of K) ∙ w.1))
           (λ w. inr (begin-own play t (arrival_of K) ∙ (w ∙ at)))
           (begins-or-stays (link_of m t.source).is_open q.mark t.sign (begin_of play t.source) t.key sign e),
@@ -296,7 +318,8 @@ calm-offered s m links K play q t course calm is_q is_t own sign = record {
             begin_at (begin_of play t.source) t.key t.sign ≡ begin_of play t.source
         by_test true e = stays-open (link_of m t.source).is_open q.mark t.sign (begin_of play t.source) t.key sign was
             (ap (λ b. suits_sign b (sign_of q.mark)) was ∙ e)
-        by_test false e = absurd (true≢false (sym was ∙ ((course.offering t is_t).may_go.outside (ap (suits_sign true) (sym sign) ∙ e)).0))
+        by_test false e = absurd (true≢false (sym was ∙ ((course.offering t is_t).may_go.outside
+            (ap (suits_sign true) (sym sign) ∙ e)).0))
 
 pub calm-head : (s : Setup) (m : Merger) (links : Links) (K : Key) (play : Play) (t : Tag) (h : Held) (hs : List Held) →
     Course s m links K play → Calm s m links K play → m.offered ≡ None → t.source < length m.links →
@@ -307,7 +330,8 @@ pub calm-head : (s : Setup) (m : Merger) (links : Links) (K : Key) (play : Play)
 calm-head s m links K play t h hs course calm none_offered below is tag came sign may = record {
   free = freed-calm links t.source calm.free;
   ahead = calm.ahead;
-  order = unstalled_routed-head s.routes m play t h hs (begin_of play) (begin_of (head_goes play t (arrival_of K))) K calm.order
+  order = unstalled_routed-head s.routes m play t h hs (begin_of play) (begin_of (head_goes play t (arrival_of K))) K
+      calm.order
       below is came tag.link (λ y apart. begin-other play t (arrival_of K) y apart) opening still (tag-line t tag)
       (tag-place t tag) (tag-own t tag) owner;
 }
@@ -322,10 +346,12 @@ calm-head s m links K play t h hs course calm none_offered below is tag came sig
     still = ap is_realtime_sign (sym sign) ∙ (mark-realtime h.mark ∙ (subst NoRealtime is (fits.turn t.source).no_rt).0)
 
     opening : opens (link_of m t.source).is_open h.mark ≡ true →
-        (((link_of m t.source).is_open ≡ true) × (begin_of (head_goes play t (arrival_of K)) t.source ≡ begin_of play t.source))
+        (((link_of m t.source).is_open ≡ true) × (begin_of (head_goes play t (arrival_of K)) t.source ≡ begin_of play
+        t.source))
         ⊎ (begin_of (head_goes play t (arrival_of K)) t.source ≡ t.key)
     opening e = ⊎_elim
-        (λ (w : ((link_of m t.source).is_open ≡ true) × (begin_at (begin_of play t.source) t.key t.sign ≡ begin_of play t.source)).
+        (λ (w : ((link_of m t.source).is_open ≡ true) × (begin_at (begin_of play t.source) t.key t.sign ≡ begin_of play
+        t.source)).
         inl (w.0, begin-own play t (arrival_of K) ∙ w.1))
         (λ w. inr (begin-own play t (arrival_of K) ∙ w))
         (begins-or-stays (link_of m t.source).is_open h.mark t.sign (begin_of play t.source) t.key sign e)
@@ -335,7 +361,8 @@ calm-head s m links K play t h hs course calm none_offered below is tag came sig
     owner = no_owner (sharing s.routes) m t.source h.mark (reached-shares s m course.reached) below
         (subst NoRealtime is (fits.turn t.source).no_rt).0 may (head-suits m t.source h hs fits none_offered is)
 
-pub calm-renews : (s : Setup) (m : Merger) (links : Links) (K : Key) (play : Play) (x : ℕ) (k : Key) (next : Option Key) →
+pub calm-renews : (s : Setup) (m : Merger) (links : Links) (K : Key) (play : Play) (x : ℕ) (k : Key) (next : Option Key)
+    →
     Calm s m links K play → links.present x ≡ Some k → IsNextKey links x k next → Calm s m (renews links x next) K play
 calm-renews s m links K play x k next calm here is = record {
   free = calm.free;
@@ -347,7 +374,8 @@ calm-renews s m links K play x k next calm here is = record {
   order = calm.order;
 }
 
-pub calm-starts : (s : Setup) (present : ℕ → Option Key) → Calm s (start_of s) (first_links present) (no_key 0) begins_play
+pub calm-starts : (s : Setup) (present : ℕ → Option Key) → Calm s (start_of s) (first_links present) (no_key 0)
+    begins_play
 calm-starts s present = record {
   free = λ x. refl;
   ahead = λ x c e. above c.moment c.link;

@@ -56,7 +56,8 @@ all-passed s m links K play course quiet over x = by_held (link_of m x).held ref
     by_held : (hs : List Held) → (link_of m x).held ≡ hs → hs ≡ []
     by_held [] e = refl
     by_held (h ∷ hs) e =
-        let owner = is_owned_below-who m.links x (length m.links) (settled.waits_for x h hs (within m.links x h hs e) e) in
+        let owner = is_owned_below-who m.links x (length m.links) (settled.waits_for x h hs (within m.links x h hs e) e)
+        in
         absurd (true≢false (sym (opened _ _ owner.owned) ∙ all-closed s m links K play course quiet over owner.at))
 
 pub course-merged : (s : Setup) (m : Merger) (links : Links) (K : Key) (play : Play) (sources : List Source) →
@@ -93,7 +94,8 @@ course-stopped s m links K play sources course idle given = record {
   orderly = course.order.orderly;
 }
   where
-    each : (at : ℕ) (rest : List Source) → AreGivenFronts links at rest → AreFrontsOfSources at rest (report_of play.passed)
+    each : (at : ℕ) (rest : List Source) → AreGivenFronts links at rest →
+        AreFrontsOfSources at rest (report_of play.passed)
     each at [] given = tt
     each at (source ∷ rest) given = (
       front-of-source play at (links.given at) (marks_of source) course.order.turns idle given.0 (course.taken at)

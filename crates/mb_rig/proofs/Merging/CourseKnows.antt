@@ -54,18 +54,25 @@ count-turns source u (At moment sign ∷ puts) =
     by_kind (is_realtime_sign sign) refl (count-turns source (under_after u (key_at moment source) sign) puts)
   where
     by_kind : (rt : Bool) → is_realtime_sign sign ≡ rt →
-        length (filter (λ (t : Tag). not (is_realtime_sign t.sign)) (tags_from source (under_after u (key_at moment source) sign) (keyed_marks source puts)))
+        length (filter (λ (t : Tag). not (is_realtime_sign t.sign))
+        (tags_from source (under_after u (key_at moment source) sign) (keyed_marks source puts)))
         ≡ length (turns_in (signs_in puts)) →
-        length (filter (λ (t : Tag). not (is_realtime_sign t.sign)) (tag_at source u (key_at moment source) sign ∷ tags_from source (under_after u (key_at moment source) sign) (keyed_marks source puts)))
+        length (filter (λ (t : Tag). not (is_realtime_sign t.sign))
+        (tag_at source u (key_at moment source) sign ∷ tags_from source (under_after u (key_at moment source) sign)
+        (keyed_marks source puts)))
         ≡ length (turns_in (sign ∷ signs_in puts))
     by_kind true e rest =
-        ap length (filter-cons (λ (t : Tag). not (is_realtime_sign t.sign)) (tag_at source u (key_at moment source) sign)
+        ap length (filter-cons (λ (t : Tag). not (is_realtime_sign t.sign))
+        (tag_at source u (key_at moment source) sign)
         (tags_from source (under_after u (key_at moment source) sign) (keyed_marks source puts)) false (ap not e))
-        ∙ (rest ∙ ap length (sym (filter-cons (λ (m : Sign). not (is_realtime_sign m)) sign (signs_in puts) false (ap not e))))
+        ∙ (rest ∙ ap length (sym (filter-cons (λ (m : Sign). not (is_realtime_sign m)) sign (signs_in puts) false
+        (ap not e))))
     by_kind false e rest =
-        ap length (filter-cons (λ (t : Tag). not (is_realtime_sign t.sign)) (tag_at source u (key_at moment source) sign)
+        ap length (filter-cons (λ (t : Tag). not (is_realtime_sign t.sign))
+        (tag_at source u (key_at moment source) sign)
         (tags_from source (under_after u (key_at moment source) sign) (keyed_marks source puts)) true (ap not e))
-        ∙ (ap suc rest ∙ ap length (sym (filter-cons (λ (m : Sign). not (is_realtime_sign m)) sign (signs_in puts) true (ap not e))))
+        ∙ (ap suc rest ∙ ap length (sym (filter-cons (λ (m : Sign). not (is_realtime_sign m)) sign (signs_in puts) true
+        (ap not e))))
 
 same-count : (x : ℕ) (hs : List Held) (ts : List Tag) → AreHeld x hs ts → length hs ≡ length ts
 same-count x [] [] are = refl
@@ -81,7 +88,8 @@ course-room s m links K play x mark course quiet few = by_test (has_room m x mar
   where
     turns : filter (tag_in_turn x) play.taken ≡ filter (tag_in_turn x) (tags_passed play) ++ play.held x
     turns = course.order.turns.turns x
-        ∙ ap (λ (o : Option Tag). filter (tag_in_turn x) (tags_passed play) ++ (filter (tag_in_turn x) (one o) ++ play.held x))
+        ∙ ap (λ (o : Option Tag). filter (tag_in_turn x) (tags_passed play) ++
+        (filter (tag_in_turn x) (one o) ++ play.held x))
         (no-offer m.offered play.offered course.order.plays.offered ((reached-fits s m course.reached).quiet quiet).0)
 
     all : length (filter (tag_in_turn x) play.taken) ≡ length (turns_in (signs_in (links.given x)))
@@ -98,9 +106,11 @@ course-room s m links K play x mark course quiet few = by_test (has_room m x mar
 
     by_test : (c : Bool) → has_room m x mark ≡ c → c ≡ true
     by_test true e = refl
-    by_test false e = let many = ((refused m x mark).0 e).2 in let some = held in absurd (omega (arith, many, some, few))
+    by_test false e = let many = ((refused m x mark).0 e).2 in let some = held in absurd
+        (omega (arith, many, some, few))
 
-puts-push : (routes : List (ℕ × ℕ)) (out : ℕ) (ps : List PassedTag) (p : PassedTag) → goes routes p.tag.source out ≡ true →
+puts-push : (routes : List (ℕ × ℕ)) (out : ℕ) (ps : List PassedTag) (p : PassedTag) →
+    goes routes p.tag.source out ≡ true →
     puts_to routes out (ps ++ p ∷ []) ≡ puts_to routes out ps ++ put_of p ∷ []
 puts-push routes out ps p e =
     ap (map put_of) (filter-append (λ (x : PassedTag). goes routes x.tag.source out) ps (p ∷ [])
@@ -108,7 +118,8 @@ puts-push routes out ps p e =
     (filter-cons (λ (x : PassedTag). goes routes x.tag.source out) p [] true e))
     ∙ map-append put_of (filter (λ (x : PassedTag). goes routes x.tag.source out) ps) (p ∷ [])
 
-signs-append : (puts : List Put) (moment : ℕ) (sign : Sign) → signs_in (puts ++ At moment sign ∷ []) ≡ signs_in puts ++ sign ∷ []
+signs-append : (puts : List Put) (moment : ℕ) (sign : Sign) → signs_in (puts ++ At moment sign ∷ []) ≡ signs_in puts ++
+    sign ∷ []
 signs-append [] moment sign = refl
 signs-append (At n m ∷ puts) moment sign = ap (λ (ms : List Sign). m ∷ ms) (signs-append puts moment sign)
 signs-append (Flush ∷ puts) moment sign = signs-append puts moment sign

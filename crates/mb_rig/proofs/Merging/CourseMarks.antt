@@ -74,7 +74,8 @@ pub offer-may : (m : Merger) (x moment : ℕ) (mark : Mark) → x < length m.lin
     suits_sign (link_of m x).in_sysex (sign_of mark) ≡ true → (link_of m x).last ≤ moment → m.draining ≡ false →
     has_room m x mark ≡ true → may_offer m x moment mark ≡ true
 offer-may m x moment mark below fit later quiet room =
-    and-true _ _ (less x (length m.links) below) (and-true _ _ fit (and-true _ _ (at_most (link_of m x).last moment later)
+    and-true _ _ (less x (length m.links) below) (and-true _ _ fit
+    (and-true _ _ (at_most (link_of m x).last moment later)
     (and-true _ _ (ap not quiet) room)))
   where
     less : (a b : ℕ) → a < b → nat_lt a b ≡ true

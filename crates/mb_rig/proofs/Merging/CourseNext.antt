@@ -7,7 +7,8 @@ use Rattle.mb_merge.specs.declared.source.Held.{Held}
 use Rattle.mb_merge.specs.declared.router.Passed.{Passed}
 use Rattle.mb_merge.specs.declared.waiting.Head.{Head}
 use Rattle.mb_merge.specs.Links.{Merger, link_of}
-use Rattle.mb_merge.specs.Passing.{may_pass, least, ready_by, drained, head_passes, held_passes, offered_passes, next_of}
+use Rattle.mb_merge.specs.Passing.{may_pass, least, ready_by, drained, head_passes, held_passes, offered_passes}
+use Rattle.mb_merge.specs.Passing.{next_of}
 use Rattle.mb_merge.specs.Calls.{IsLeast}
 use Rattle.mb_merge.proofs.LeastLemmas.{least-IsLeast}
 use Rattle.mb_merge.proofs.Histories.{head_list, ready-may}
@@ -63,7 +64,8 @@ freed-free links x free = λ i. record {
   where
     each : (y : ℕ) → links.stalled y ≡ at_link links.stalled x false y
     each y = ⊎_elim
-        (λ (e : y ≡ x). ap links.stalled e ∙ (free ∙ (sym (here-same links.stalled x false) ∙ ap (at_link links.stalled x false) (sym e))))
+        (λ (e : y ≡ x). ap links.stalled e ∙ (free ∙ (sym (here-same links.stalled x false)
+        ∙ ap (at_link links.stalled x false) (sym e))))
         (λ (apart : y ≢ x). sym (elsewhere links.stalled x false y apart))
         (same_or_not y x)
 
@@ -87,7 +89,8 @@ by_offered s m links K play q (Some t) course is_q is_t is reached = record {
 }
 
 by_head : (s : Setup) (m : Merger) (links : Links) (K : Key) (play : Play) (x : ℕ) (h : Held) (hs : List Held) →
-    Course s m links K play → m.offered ≡ None → play.offered ≡ None → x < length m.links → (link_of m x).held ≡ h ∷ hs →
+    Course s m links K play → m.offered ≡ None → play.offered ≡ None → x < length m.links →
+    (link_of m x).held ≡ h ∷ hs →
     may_pass m.links x h.mark ≡ true → IsReached (start_of s) (head_passes m x (Some h)).1 →
     Passes s m (head_passes m x (Some h)).1 links K play (record { source = x; arrival = h.arrival; mark = h.mark })
 by_head s m links K play x h hs course none idle below is may reached =
@@ -97,7 +100,8 @@ by_head s m links K play x h hs course none idle below is may reached =
     by_source : (t : Tag) (rest : List Tag) → play.held t.source ≡ t ∷ rest → IsHeldMark h t → t.key.link ≡ t.source →
         t.source < length m.links → (link_of m t.source).held ≡ h ∷ hs → may_pass m.links t.source h.mark ≡ true →
         IsReached (start_of s) (head_passes m t.source (Some h)).1 →
-        Passes s m (head_passes m t.source (Some h)).1 links K play (record { source = t.source; arrival = h.arrival; mark = h.mark })
+        Passes s m (head_passes m t.source (Some h)).1 links K play
+        (record { source = t.source; arrival = h.arrival; mark = h.mark })
     by_source t rest first mark link below is may reached = record {
       tag = t;
       is_tag = (subst AreTags first (course.held_tags t.source)).0;
@@ -113,7 +117,8 @@ by_head s m links K play x h hs course none idle below is may reached =
     by_tag : (t : Tag) → play.held x ≡ t ∷ drop 1 (play.held x) → IsHeldMark h t → t.source ≡ x → t.key.link ≡ x →
         Passes s m (head_passes m x (Some h)).1 links K play (record { source = x; arrival = h.arrival; mark = h.mark })
     by_tag t first mark own link =
-        subst (λ y. Passes s m (head_passes m y (Some h)).1 links K play (record { source = y; arrival = h.arrival; mark = h.mark })) own
+        subst (λ y. Passes s m (head_passes m y (Some h)).1 links K play
+        (record { source = y; arrival = h.arrival; mark = h.mark })) own
         (by_source t (drop 1 (play.held x)) (ap play.held own ∙ first) mark (link ∙ sym own)
         (subst (λ y. y < length m.links) (sym own) below) (subst (λ y. (link_of m y).held ≡ h ∷ hs) (sym own) is)
         (subst (λ y. may_pass m.links y h.mark ≡ true) (sym own) may)
@@ -135,18 +140,25 @@ by_best s m links K play best course none idle is reached =
         by_head s m links K play best.source h split.0 course none idle first.1 split.1
         (ready-may m.links best.source h best (sym (ap (ready_by m.links best.source) at) ∙ first.0)) reached
 
-by_least : (s : Setup) (m : Merger) (links : Links) (K : Key) (play : Play) (best : Option Head) → Course s m links K play →
+by_least : (s : Setup) (m : Merger) (links : Links) (K : Key) (play : Play) (best : Option Head) →
+    Course s m links K play →
     m.offered ≡ None → play.offered ≡ None → least m.links ≡ best → IsReached (start_of s) (held_passes m best).1 →
     PassesOn s m links K play (held_passes m best).0 (held_passes m best).1
-by_least s m links K play None course none idle is reached =
-    (course-quiet s m links K play course idle reached, λ calm. record { free = calm.free; ahead = calm.ahead; order = calm.order })
-by_least s m links K play (Some best) course none idle is reached = by_best s m links K play best course none idle is reached
+by_least s m links K play None course none idle is reached = (
+  course-quiet s m links K play course idle reached,
+  λ calm. record
+      { free = calm.free; ahead = calm.ahead; order = calm.order },
+)
+by_least s m links K play (Some best) course none idle is reached = by_best s m links K play best course none idle is
+    reached
 
-by_next : (s : Setup) (m : Merger) (links : Links) (K : Key) (play : Play) (o : Option Passed) → Course s m links K play →
+by_next : (s : Setup) (m : Merger) (links : Links) (K : Key) (play : Play) (o : Option Passed) →
+    Course s m links K play →
     m.offered ≡ o → IsReached (start_of s) (offered_passes m o).1 →
     PassesOn s m links K play (offered_passes m o).0 (offered_passes m o).1
 by_next s m links K play None course is reached =
-    by_least s m links K play (least m.links) course is (no-offer m.offered play.offered course.order.plays.offered is) refl reached
+    by_least s m links K play (least m.links) course is (no-offer m.offered play.offered course.order.plays.offered is)
+    refl reached
 by_next s m links K play (Some q) course is reached =
     by_offered s m links K play q play.offered course is refl
     (subst (λ (o : Option Passed). IsOffered o play.offered) is course.order.plays.offered) reached

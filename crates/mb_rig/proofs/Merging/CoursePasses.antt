@@ -24,23 +24,27 @@ use Rattle.mb_rig.specs.Merging.Tags.{tags_passed, under_of, with_held}
 use Rattle.mb_rig.specs.Merging.Order.{sharing}
 use Rattle.mb_rig.specs.Merging.Realtimes.{RealtimesFit}
 use Rattle.mb_rig.specs.Merging.Heard.{MayGo, OutsKnown, open_after, opens_sign}
-use Rattle.mb_rig.specs.Merging.Course.{Links, Course, Offering, IsReached, AreSorted, IsNotAfter, at_link, freed, goes_out}
+use Rattle.mb_rig.specs.Merging.Course.{Links, Course, Offering, IsReached, AreSorted, IsNotAfter, at_link, freed}
+use Rattle.mb_rig.specs.Merging.Course.{goes_out}
 use Rattle.mb_rig.specs.Merging.Course.{AreWithin, start_of}
 use Rattle.mb_rig.proofs.Merging.Lateness.{true≢false, none≢some, some_same, same_or_not, EndsBy}
 use Rattle.mb_rig.proofs.Merging.RouterEvents.{no_owner}
 use Rattle.mb_rig.proofs.Merging.PlaySteps.{passed-push, with_held-same, with_held-other}
 use Rattle.mb_rig.proofs.Merging.OrderSteps.{order-offered, order-head, passing_of}
 use Rattle.mb_rig.proofs.Merging.PlaceSteps.{places-offered, places-head, apart-head}
-use Rattle.mb_rig.proofs.Merging.RoutedSteps.{open_other, open_same, realtimes_routed-offered, realtimes_routed-head, with_link}
+use Rattle.mb_rig.proofs.Merging.RoutedSteps.{open_other, open_same, realtimes_routed-offered, realtimes_routed-head}
+use Rattle.mb_rig.proofs.Merging.RoutedSteps.{with_link}
 use Rattle.mb_rig.proofs.Merging.MayGo.{may-go, one_open}
 use Rattle.mb_rig.proofs.Merging.OwnerLemmas.{outs-pass}
 use Rattle.mb_rig.proofs.Merging.Reached.{reached-fits, reached-goes, reached-shares, reached-sources}
-use Rattle.mb_rig.proofs.Merging.Given.{rises-push, here-same, elsewhere, tag-line, tag-place, tag-ends, AreTags-push, AreTags-drop}
+use Rattle.mb_rig.proofs.Merging.Given.{rises-push, here-same, elsewhere, tag-line, tag-place, tag-ends, AreTags-push}
+use Rattle.mb_rig.proofs.Merging.Given.{AreTags-drop}
 use Rattle.mb_rig.proofs.Merging.CourseMarks.{mark-realtime, mark-opens, no-tags}
 use Rattle.mb_rig.proofs.Merging.CourseTakes.{at_place}
 
 -- a mark behind which no SysEx is open any more ends it
-pub closes : (b : Bool) (mark : Mark) → b ≡ true → opens b mark ≡ false → (sign_of mark ≡ EndSign) ⊎ (sign_of mark ≡ AbortSign)
+pub closes : (b : Bool) (mark : Mark) → b ≡ true → opens b mark ≡ false →
+    (sign_of mark ≡ EndSign) ⊎ (sign_of mark ≡ AbortSign)
 closes b (Short x) was now = absurd (true≢false (sym was ∙ now))
 closes b (Rt x) was now = absurd (true≢false (sym was ∙ now))
 closes b Open was now = absurd (true≢false now)
@@ -65,7 +69,8 @@ open-behind m t now mark below sign is = λ i x. each x i
 
     each : (x : ℕ) → open_after (open_of m) t x ≡ open_of (with_link m t.source now) x
     each x = ⊎_elim
-        (λ (e : x ≡ t.source). ap (λ (c : Bool). if c then opens_sign (open_of m x) t.sign else open_of m x) (same x t.source e)
+        (λ (e : x ≡ t.source). ap (λ (c : Bool). if c then opens_sign (open_of m x) t.sign else open_of m x)
+        (same x t.source e)
         ∙ (ap (λ y. opens_sign (open_of m y) t.sign) e ∙ (ap (opens_sign (open_of m t.source)) (sym sign)
         ∙ (mark-opens (link_of m t.source).is_open mark ∙ (sym is ∙ (sym (open_same m t.source now below)
         ∙ ap (open_of (with_link m t.source now)) (sym e)))))))
@@ -92,23 +97,30 @@ outs-behind s m play t moment now mark reached below sign is known may =
 
 tags-behind : (play : Play) (t : Tag) (moment : ℕ) → AreTags (tags_passed play) → IsTag t →
     AreTags (map (λ (x : PassedTag). x.tag) (play.passed ++ (record { tag = t; moment = moment }) ∷ []))
-tags-behind play t moment are is = subst AreTags (sym (passed-push play t moment)) (AreTags-push (tags_passed play) t are is)
+tags-behind play t moment are is = subst AreTags (sym (passed-push play t moment))
+    (AreTags-push (tags_passed play) t are is)
 
-within-push : (count : ℕ) (ts : List Tag) (t : Tag) → AreWithin count ts → t.source < count → AreWithin count (ts ++ t ∷ [])
+within-push : (count : ℕ) (ts : List Tag) (t : Tag) → AreWithin count ts → t.source < count →
+    AreWithin count (ts ++ t ∷ [])
 within-push count [] t are is = (is, tt)
 within-push count (u ∷ us) t are is = (are.0, within-push count us t are.1 is)
 
 within-behind : (s : Setup) (m : Merger) (play : Play) (t : Tag) (moment : ℕ) → IsReached (start_of s) m →
     AreWithin (length s.ins) (tags_passed play) → t.source < length m.links →
-    AreWithin (length s.ins) (map (λ (x : PassedTag). x.tag) (play.passed ++ (record { tag = t; moment = moment }) ∷ []))
+    AreWithin (length s.ins) (map (λ (x : PassedTag). x.tag)
+    (play.passed ++ (record { tag = t; moment = moment }) ∷ []))
 within-behind s m play t moment reached are below = subst (AreWithin (length s.ins)) (sym (passed-push play t moment))
-    (within-push (length s.ins) (tags_passed play) t are (subst (λ n. t.source < n) (reached-sources s m reached) below))
+    (within-push (length s.ins) (tags_passed play) t are
+    (subst (λ n. t.source < n) (reached-sources s m reached) below))
 
 -- the mark just offered, of the tag's source
 pub course-offered : (s : Setup) (m : Merger) (links : Links) (K : Key) (play : Play) (q : Passed) (t : Tag) →
     Course s m links K play → m.offered ≡ Some q → play.offered ≡ Some t → q.source ≡ t.source →
     q.arrival ≡ t.key.moment → sign_of q.mark ≡ t.sign →
-    IsReached (start_of s) (record m { links = slice_set m.links q.source (after_pass (link_of m q.source) q.mark); offered = None }) →
+    IsReached (start_of s) (record m {
+      links = slice_set m.links q.source (after_pass (link_of m q.source) q.mark);
+      offered = None;
+    }) →
     Course s (record m { links = slice_set m.links q.source (after_pass (link_of m q.source) q.mark); offered = None })
     links K (offered_goes play t (arrival_of K))
 course-offered s m links K play q t course is_q is_t own came sign reached = record {
@@ -116,15 +128,18 @@ course-offered s m links K play q t course is_q is_t own came sign reached = rec
   order = order-offered s.routes m play links.present links.stalled K q t course.order is_q is_t own came tag.link
       q_below offer.free offer.here offer.within (tag-line t tag) q_opening q_ending;
   realtimes = subst (λ y. RealtimesFit s.routes (offered_goes play t (arrival_of K))
-      (open_of (with_link m y (after_pass (link_of m y) q.mark))) (keys_of (with_link m y (after_pass (link_of m y) q.mark)))) (sym own)
+      (open_of (with_link m y (after_pass (link_of m y) q.mark)))
+      (keys_of (with_link m y (after_pass (link_of m y) q.mark)))) (sym own)
       (realtimes_routed-offered s.routes m play t q.mark (arrival_of K) course.realtimes below sign
-      (λ e. no-tags t.source (link_of m t.source).held (play.held t.source) (course.order.plays.held t.source) (opening e))
+      (λ e. no-tags t.source (link_of m t.source).held (play.held t.source) (course.order.plays.held t.source)
+      (opening e))
       ending (tag-line t tag) (tag-place t tag) offer.latest offer.waits);
   places = places-offered play (λ y. (under_of y (links.given y)).place) t (arrival_of K) course.places offer.place
       offer.fresh (tag-line t tag) (tag-place t tag);
   outs = subst (λ y. OutsKnown (goes_out s) (open_of (with_link m y (after_pass (link_of m y) q.mark)))
       (tags_passed (offered_goes play t (arrival_of K)))) (sym own)
-      (outs-behind s m play t (arrival_of K) (after_pass (link_of m t.source) q.mark) q.mark course.reached below sign refl
+      (outs-behind s m play t (arrival_of K) (after_pass (link_of m t.source) q.mark) q.mark course.reached below sign
+      refl
       course.outs offer.may_go);
   rises = rises-push 0 (arrival_of K) play.passed t course.rises;
   held_tags = course.held_tags;
@@ -154,7 +169,8 @@ course-offered s m links K play q t course is_q is_t own came sign reached = rec
     q_below = subst (HasSource m.links) is_q (reached-fits s m course.reached).source
 
     below : t.source < length m.links
-    below = subst (λ y. y < length m.links) own (subst (HasSource m.links) is_q (reached-fits s m course.reached).source)
+    below = subst (λ y. y < length m.links) own (subst (HasSource m.links) is_q
+        (reached-fits s m course.reached).source)
 
     opening : opens (link_of m t.source).is_open q.mark ≡ true → (link_of m t.source).held ≡ []
     opening e = (course.offering t is_t).opening (ap (opens_sign (open_of m t.source)) (sym sign)
@@ -182,7 +198,8 @@ course-offered s m links K play q t course is_q is_t own came sign reached = rec
         EndsBy y t.key (passing_of (arrival_of K) t.line)) (sym own) by_line
 
 -- the first held mark, of the tag's source
-pub course-head : (s : Setup) (m : Merger) (links : Links) (K : Key) (play : Play) (t : Tag) (rest : List Tag) (h : Held) (hs : List Held) →
+pub course-head : (s : Setup) (m : Merger) (links : Links) (K : Key) (play : Play) (t : Tag) (rest : List Tag)
+    (h : Held) (hs : List Held) →
     Course s m links K play → m.offered ≡ None → play.offered ≡ None → t.source < length m.links →
     (link_of m t.source).held ≡ h ∷ hs → play.held t.source ≡ t ∷ rest → h.arrival ≡ t.key.moment →
     sign_of h.mark ≡ t.sign → may_pass m.links t.source h.mark ≡ true →
@@ -191,7 +208,8 @@ pub course-head : (s : Setup) (m : Merger) (links : Links) (K : Key) (play : Pla
     (freed links t.source) K (head_goes play t (arrival_of K))
 course-head s m links K play t rest h hs course none_offered idle below is first came sign may reached = record {
   reached = reached;
-  order = order-head s.routes m play links.present links.stalled (at_link links.stalled t.source false) K t.source h hs t rest
+  order = order-head s.routes m play links.present links.stalled (at_link links.stalled t.source false) K t.source h hs
+      t rest
       course.order idle is refl first came tag.link calm (tag-line t tag) next
       (λ x apart. elsewhere links.stalled t.source false x apart) owner;
   realtimes = realtimes_routed-head s.routes m play t rest h hs (arrival_of K) course.realtimes first is calm
@@ -207,7 +225,8 @@ course-head s m links K play t rest h hs course none_offered idle below is first
   sources = within-behind s m play t (arrival_of K) course.reached course.sources below;
   taken = course.taken;
   sorted = at_place (λ y (l : Link). AreSorted l.held l.last) m.links t.source (after_head (link_of m t.source) h.mark)
-      below (subst (λ gs. AreSorted (drop 1 gs) (link_of m t.source).last) (sym is) sorted.2) (λ y apart. course.sorted y);
+      below (subst (λ gs. AreSorted (drop 1 gs) (link_of m t.source).last) (sym is) sorted.2)
+      (λ y apart. course.sorted y);
   full = at_place (λ y (l : Link). (freed links t.source).stalled y ≡ true → 1024 ≤ length l.held) m.links t.source
       (after_head (link_of m t.source) h.mark) below
       (λ e. absurd (true≢false (sym e ∙ here-same links.stalled t.source false)))
@@ -239,10 +258,12 @@ course-head s m links K play t rest h hs course none_offered idle below is first
     sorted : AreSorted (h ∷ hs) (link_of m t.source).last
     sorted = subst (λ gs. AreSorted gs (link_of m t.source).last) is (course.sorted t.source)
 
-    not_before : (gs : List Held) → IsNotAfter h.arrival gs → (c : Key) → slice_get (map (key_of t.source) gs) 0 ≡ Some c →
+    not_before : (gs : List Held) → IsNotAfter h.arrival gs → (c : Key) →
+        slice_get (map (key_of t.source) gs) 0 ≡ Some c →
         AtMost (key_of t.source h) c
     not_before [] after c e = absurd (none≢some c e)
-    not_before (g ∷ gs) after c e = subst (AtMost (key_of t.source h)) (some_same e) (later h.arrival g.arrival t.source after)
+    not_before (g ∷ gs) after c e = subst (AtMost (key_of t.source h)) (some_same e)
+        (later h.arrival g.arrival t.source after)
       where
         later : (a b x : ℕ) → a ≤ b → (nat_lt b a || ((b == a) && nat_lt x x)) ≡ false
         later a b x e = grind (arith, nat_tests)
@@ -260,9 +281,11 @@ course-head s m links K play t rest h hs course none_offered idle below is first
 
     tags_at : (y : ℕ) → AreTags (with_held play.held t.source (drop 1 (play.held t.source)) y)
     tags_at y = ⊎_elim
-        (λ (e : y ≡ t.source). subst (λ z. AreTags (with_held play.held t.source (drop 1 (play.held t.source)) z)) (sym e)
+        (λ (e : y ≡ t.source). subst (λ z. AreTags (with_held play.held t.source (drop 1 (play.held t.source)) z))
+        (sym e)
         (subst AreTags (sym (with_held-same play.held t.source (drop 1 (play.held t.source))))
         (AreTags-drop (play.held t.source) (course.held_tags t.source))))
-        (λ (apart : y ≢ t.source). subst AreTags (sym (with_held-other play.held t.source y (drop 1 (play.held t.source)) apart))
+        (λ (apart : y ≢ t.source). subst AreTags (sym (with_held-other play.held t.source y
+        (drop 1 (play.held t.source)) apart))
         (course.held_tags y))
         (same_or_not y t.source)

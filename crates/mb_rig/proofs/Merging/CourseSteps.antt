@@ -35,7 +35,8 @@ idle_of s m links K play course quiet = no-offer m.offered play.offered course.o
     ((reached-fits s m course.reached).quiet quiet).0
 
 -- a step begins at the least key of the links that aren't stalled
-pub course-begins : (s : Setup) (m : Merger) (links : Links) (K : Key) (play : Play) (k : Key) → Course s m links K play →
+pub course-begins : (s : Setup) (m : Merger) (links : Links) (K : Key) (play : Play) (k : Key) →
+    Course s m links K play →
     m.draining ≡ false → IsLeastKey links k → Course s m links (greater K k) play
 course-begins s m links K play k course quiet least = record {
   reached = course.reached;
@@ -65,7 +66,8 @@ course-begins s m links K play k course quiet least = record {
     grows false e = omega arith
 
 -- a link's record is used up
-pub course-renews : (s : Setup) (m : Merger) (links : Links) (K : Key) (play : Play) (x : ℕ) (k : Key) (next : Option Key) →
+pub course-renews : (s : Setup) (m : Merger) (links : Links) (K : Key) (play : Play) (x : ℕ) (k : Key)
+    (next : Option Key) →
     Course s m links K play → m.draining ≡ false → links.stalled x ≡ false → links.present x ≡ Some k →
     IsNextKey links x k next → Course s m (renews links x next) K play
 course-renews s m links K play x k next course quiet free here is = record {
@@ -100,12 +102,14 @@ course-renews s m links K play x k next course quiet free here is = record {
     fits : Fits m
     fits = reached-fits s m course.reached
 
-    goes_on : (o : Option Key) → next ≡ o → (link_of m x).is_open ≡ true → (c : Key) × (at_link links.present x next x ≡ Some c)
+    goes_on : (o : Option Key) → next ≡ o → (link_of m x).is_open ≡ true →
+        (c : Key) × (at_link links.present x next x ≡ Some c)
     goes_on (Some c) e opened = (c, here-same links.present x next ∙ e)
     goes_on None e opened =
         let none : (link_of m x).held ≡ [] =
         (reached-settled s m course.reached quiet).owners x (open-within m.links x opened) opened in
-        absurd (true≢false (sym opened ∙ (nothing-held m x fits (fits.quiet quiet).0 none ∙ (course.sysex x ∙ is.closed e))))
+        absurd (true≢false (sym opened ∙ (nothing-held m x fits (fits.quiet quiet).0 none
+        ∙ (course.sysex x ∙ is.closed e))))
 
     later : (a b c d l : ℕ) → l ≤ a → c ≡ d → (nat_lt b a || ((b == a) && nat_lt d c)) ≡ false → l ≤ b
     later a b c d l at same not_below = let le : a ≤ b = grind (arith, nat_tests) in omega (arith, le, at)

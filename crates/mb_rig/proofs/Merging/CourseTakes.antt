@@ -1,6 +1,7 @@
 -- A mark of a link is offered, and is to pass or is held: the course goes on.
 use Rattle.std.proofs.Common.{◌≡◌, ◌≢◌, ◌⊎◌, ⊎_elim, ℕ, zero, suc, ◌+◌, ◌<◌, ◌≤◌, Bool, true, false, List, []}
-use Rattle.std.proofs.Common.{◌∷◌, ◌++◌, length, map, filter, Option, Some, None, refl, ap, sym, subst, ◌∙◌, arith, append-nil}
+use Rattle.std.proofs.Common.{◌∷◌, ◌++◌, length, map, filter, Option, Some, None, refl, ap, sym, subst, ◌∙◌, arith}
+use Rattle.std.proofs.Common.{append-nil}
 use Rattle.std.specs.Prelude.{◌==◌, if◌then◌else◌, slice_set}
 use Rattle.std.proofs.lemmas.Bool.Decides.{nat_tests}
 use Rattle.std.proofs.lemmas.List.Elements.{filter-append}
@@ -22,7 +23,8 @@ use Rattle.mb_rig.specs.Merging.Run.{Drained}
 use Rattle.mb_rig.specs.Merging.Unbroken.{HasOwner}
 use Rattle.mb_rig.specs.Merging.Routed.{key_of, open_of, keys_of, run_of}
 use Rattle.mb_rig.specs.Merging.Tags.{begin_behind, line_at, tag_in_turn}
-use Rattle.mb_rig.specs.Merging.Tags.{Tag, Play, AreTags, is_realtime_sign, is_tag_of, tags_of, tags_passed, takes, under_of, with_held}
+use Rattle.mb_rig.specs.Merging.Tags.{Tag, Play, AreTags, is_realtime_sign, is_tag_of, tags_of, tags_passed, takes}
+use Rattle.mb_rig.specs.Merging.Tags.{under_of, with_held}
 use Rattle.mb_rig.specs.Merging.Order.{newest, sharing}
 use Rattle.mb_rig.specs.Merging.Realtimes.{stands}
 use Rattle.mb_rig.specs.Merging.Heard.{MayGo, OutsKnown, opens_sign}
@@ -37,9 +39,12 @@ use Rattle.mb_rig.proofs.Merging.RealtimeSteps.{owner-drained}
 use Rattle.mb_rig.proofs.Merging.PlaceSteps.{places-accepts, places-takes, latest-of}
 use Rattle.mb_rig.proofs.Merging.RoutedSteps.{open_kept, keys_kept, realtimes_routed-accepts, realtimes_routed-takes}
 use Rattle.mb_rig.proofs.Merging.MayGo.{may-go}
-use Rattle.mb_rig.proofs.Merging.Reached.{reached-offer, reached-fits, reached-settled, reached-shares, reached-sources, reached-goes}
-use Rattle.mb_rig.proofs.Merging.Given.{given-begin, given-link, tag-begin, tags_of-push, place-push, signs-push, here-same, elsewhere, AreTags-push}
-use Rattle.mb_rig.proofs.Merging.CourseMarks.{mark-realtime, mark-opens, suits-opens, offer-may, nothing-held, held-closed}
+use Rattle.mb_rig.proofs.Merging.Reached.{reached-offer, reached-fits, reached-settled, reached-shares, reached-sources}
+use Rattle.mb_rig.proofs.Merging.Reached.{reached-goes}
+use Rattle.mb_rig.proofs.Merging.Given.{given-begin, given-link, tag-begin, tags_of-push, place-push, signs-push}
+use Rattle.mb_rig.proofs.Merging.Given.{here-same, elsewhere, AreTags-push}
+use Rattle.mb_rig.proofs.Merging.CourseMarks.{mark-realtime, mark-opens, suits-opens, offer-may, nothing-held}
+use Rattle.mb_rig.proofs.Merging.CourseMarks.{held-closed}
 use Rattle.mb_rig.proofs.Merging.CourseMarks.{mark-sound, no-tags, no-offer}
 
 -- the router behind an offer that passes at once, or doesn't
@@ -55,7 +60,12 @@ offer_by m x moment mark passes = record {
 
 pub sorted-later : (hs : List Held) (last later : ℕ) → AreSorted hs last → last ≤ later → AreSorted hs later
 sorted-later [] last later sorted le = tt
-sorted-later (h ∷ hs) last later sorted le = (sorted.0, omega (arith, sorted.1, le), sorted-later hs last later sorted.2 le)
+sorted-later (h ∷ hs) last later sorted le = (
+  sorted.0,
+  omega (arith, sorted.1, le),
+  sorted-later hs last later sorted.2
+      le,
+)
 
 pub sorted-push : (hs : List Held) (last : ℕ) (h : Held) → AreSorted hs last → last ≤ h.arrival →
     AreSorted (hs ++ h ∷ []) h.arrival
@@ -96,12 +106,14 @@ owners-present s m links K play course quiet o opened = by_present (links.presen
     by_present None e =
         let none : (link_of m o).held ≡ [] =
         (reached-settled s m course.reached quiet).owners o (open-within m.links o opened) opened in
-        absurd (true≢false (sym opened ∙ (nothing-held m o fits (fits.quiet quiet).0 none ∙ (course.sysex o ∙ course.over o e))))
+        absurd (true≢false (sym opened ∙ (nothing-held m o fits (fits.quiet quiet).0 none
+        ∙ (course.sysex o ∙ course.over o e))))
 
 pub course-drained : (s : Setup) (m : Merger) (links : Links) (K : Key) (play : Play) → Course s m links K play →
     m.draining ≡ false → Drained (sharing s.routes) (run_of m links.present links.stalled K (newest play))
 course-drained s m links K play course quiet =
-    drained_of (sharing s.routes) m links.present links.stalled K (newest play) settled (reached-shares s m course.reached)
+    drained_of (sharing s.routes) m links.present links.stalled K (newest play) settled
+    (reached-shares s m course.reached)
     (λ o e. (free o e, owners-present s m links K play course quiet o e)) (λ x e none. some x (course.full x e) none)
   where
     settled : IsSettled m
@@ -121,7 +133,8 @@ course-drained s m links K play course quiet =
 
 given-tags : (play : Play) (links : Links) (x moment : ℕ) (sign : Sign) →
     ((y : ℕ) → filter (is_tag_of y) play.taken ≡ tags_of y (links.given y)) → (y : ℕ) →
-    filter (is_tag_of y) (play.taken ++ next_tag links x moment sign ∷ []) ≡ tags_of y ((gives links x moment sign).given y)
+    filter (is_tag_of y) (play.taken ++ next_tag links x moment sign ∷ []) ≡ tags_of y
+    ((gives links x moment sign).given y)
 given-tags play links x moment sign known y = ⊎_elim own other (same_or_not y x)
   where
     t : Tag
@@ -133,14 +146,17 @@ given-tags play links x moment sign known y = ⊎_elim own other (same_or_not y 
     differ : (a b : ℕ) → a ≢ b → (b == a) ≡ false
     differ a b e = grind (arith, nat_tests, e)
 
-    own : y ≡ x → filter (is_tag_of y) (play.taken ++ next_tag links x moment sign ∷ []) ≡ tags_of y ((gives links x moment sign).given y)
-    own e = subst (λ z. filter (is_tag_of z) (play.taken ++ next_tag links x moment sign ∷ []) ≡ tags_of z ((gives links x moment sign).given z)) (sym e)
+    own : y ≡ x → filter (is_tag_of y) (play.taken ++ next_tag links x moment sign ∷ []) ≡ tags_of y
+        ((gives links x moment sign).given y)
+    own e = subst (λ z. filter (is_tag_of z) (play.taken ++ next_tag links x moment sign ∷ []) ≡ tags_of z
+        ((gives links x moment sign).given z)) (sym e)
         (filter-one-push x play.taken (next_tag links x moment sign) true (same x x refl)
         ∙ (ap (λ ts. ts ++ next_tag links x moment sign ∷ []) (known x)
         ∙ (sym (tags_of-push x (links.given x) moment sign)
         ∙ ap (tags_of x) (sym (here-same links.given x (links.given x ++ At moment sign ∷ []))))))
 
-    other : y ≢ x → filter (is_tag_of y) (play.taken ++ next_tag links x moment sign ∷ []) ≡ tags_of y ((gives links x moment sign).given y)
+    other : y ≢ x → filter (is_tag_of y) (play.taken ++ next_tag links x moment sign ∷ []) ≡ tags_of y
+        ((gives links x moment sign).given y)
     other apart = filter-one-push y play.taken (next_tag links x moment sign) false (differ y x apart)
         ∙ (append-nil (filter (is_tag_of y) play.taken) ∙ (known y
         ∙ ap (tags_of y) (sym (elsewhere links.given x (links.given x ++ At moment sign ∷ []) y apart))))
@@ -171,7 +187,8 @@ given-open m links x moment mark passes below fit known =
         ∙ ap is_open (sym (ap signs_in (here-same links.given x (links.given x ++ At moment (sign_of mark) ∷ []))
         ∙ signs-push (links.given x) moment (sign_of mark)))))
 
-    there : (y : ℕ) → y ≢ x → (link_of m y).in_sysex ≡ is_open (signs_in ((gives links x moment (sign_of mark)).given y))
+    there : (y : ℕ) → y ≢ x → (link_of m y).in_sysex ≡ is_open
+        (signs_in ((gives links x moment (sign_of mark)).given y))
     there y apart = known y ∙ ap (λ puts. is_open (signs_in puts))
         (sym (elsewhere links.given x (links.given x ++ At moment (sign_of mark) ∷ []) y apart))
 
@@ -278,7 +295,8 @@ course-accepts s m links K play x moment mark course may passes reached = record
     held_same : (link_of (offer_by m x moment mark true) x).held ≡ (link_of m x).held
     held_same = ap (λ (l : Link). l.held) (link_at-set_same m.links x (taken (link_of m x) true moment mark) below)
 
-    opening : (mk : Mark) → (is_realtime_mark mk ≡ false → (link_of m x).held ≡ []) → opens (link_of m x).is_open mk ≡ true → (link_of m x).held ≡ []
+    opening : (mk : Mark) → (is_realtime_mark mk ≡ false → (link_of m x).held ≡ []) →
+        opens (link_of m x).is_open mk ≡ true → (link_of m x).held ≡ []
     opening (Short z) empty e = settled.owners x below e
     opening (Rt z) empty e = settled.owners x below e
     opening Open empty e = empty refl
@@ -289,7 +307,8 @@ course-accepts s m links K play x moment mark course may passes reached = record
     inside : (link_of m x).held ≡ [] → suits_sign (link_of m x).is_open (sign_of mark) ≡ true
     inside none = ap (λ b. suits_sign b (sign_of mark)) (nothing-held m x fits none_offered none) ∙ fit
 
-    realtime_goes : (sign : Sign) (b : ℕ → Bool) (u : Tag) → u.sign ≡ sign → is_realtime_sign sign ≡ true → MayGo (goes_out s) b u
+    realtime_goes : (sign : Sign) (b : ℕ → Bool) (u : Tag) → u.sign ≡ sign → is_realtime_sign sign ≡ true →
+        MayGo (goes_out s) b u
     realtime_goes (ShortSign y z w) b u is e = absurd (true≢false (sym e))
     realtime_goes (RtSign y) b u is e = record {
       outside = λ f. absurd (true≢false (sym (ap (suits_sign true) is) ∙ f));
@@ -302,7 +321,8 @@ course-accepts s m links K play x moment mark course may passes reached = record
 
     may_go : MayGo (goes_out s) (open_of m) t
     may_go = ⊎_elim
-        (λ (rt : is_realtime_mark mark ≡ true). realtime_goes (sign_of mark) (open_of m) t refl (mark-realtime mark ∙ rt))
+        (λ (rt : is_realtime_mark mark ≡ true). realtime_goes (sign_of mark) (open_of m) t refl
+        (mark-realtime mark ∙ rt))
         (λ (p : Passes m.links x mark (link_of m x)).
         subst (λ (g : ℕ → ℕ → Bool). MayGo g (open_of m) t) (λ i o y. reached-goes s m course.reached o y i)
         (may-go m t mark refl p.may (inside p.nothing)))
@@ -313,7 +333,8 @@ course-accepts s m links K play x moment mark course may passes reached = record
     waits rt some =
         let w = owner-drained (sharing s.routes) (run_of m links.present links.stalled K (newest play)) x
         (course-drained s m links K play course may.drained)
-        (λ none. some (no-tags x (link_of m x).held (play.held x) (course.order.plays.held x) (no-keys x (link_of m x).held none))) in
+        (λ none. some (no-tags x (link_of m x).held (play.held x) (course.order.plays.held x)
+        (no-keys x (link_of m x).held none))) in
         (w.0, (w.1.0, w.1.1, w.1.2, w.1.3, tt))
       where
         no-keys : (y : ℕ) (hs : List Held) → map (key_of y) hs ≡ [] → hs ≡ []
@@ -326,7 +347,8 @@ course-accepts s m links K play x moment mark course may passes reached = record
     sysex-calm : (m : Sign) (l : Line) → line_at x (under_of x (links.given x)) (key_at moment x) m ≡ Some l →
         is_sysex l.event ≡ true → is_realtime_sign m ≡ false
     sysex-calm (ShortSign y z w) l e sysex = refl
-    sysex-calm (RtSign y) l e sysex = absurd (true≢false (sym sysex ∙ ap (λ (k : Line). is_sysex k.event) (sym (some_same e))))
+    sysex-calm (RtSign y) l e sysex = absurd (true≢false
+        (sym sysex ∙ ap (λ (k : Line). is_sysex k.event) (sym (some_same e))))
     sysex-calm OpenSign l e sysex = refl
     sysex-calm (ByteSign y) l e sysex = refl
     sysex-calm EndSign l e sysex = refl
@@ -335,25 +357,37 @@ course-accepts s m links K play x moment mark course may passes reached = record
     offering : Offering s (offer_by m x moment mark true) (gives links x moment (sign_of mark)) K
         (takes play true (next_tag links x moment (sign_of mark))) (next_tag links x moment (sign_of mark))
     offering = record {
-      is_tag = record { under = under_of x (links.given x); is = refl; link = refl; sound = mark-sound (is_open (signs_in (links.given x))) mark may.suits; begun = given-link x (links.given x) };
+      is_tag = record {
+        under = under_of x (links.given x);
+        is = refl;
+        link = refl;
+        sound = mark-sound
+            (is_open (signs_in (links.given x))) mark may.suits;
+        begun = given-link x (links.given x);
+      };
       free = may.free;
       here = may.here;
       within = may.within;
       place = let more = next-place links x moment (sign_of mark) in omega (arith, more);
       fresh = course.places.held x;
-      latest = latest-of play (λ y. (under_of y (links.given y)).place) (next_tag links x moment (sign_of mark)) course.places refl;
+      latest = latest-of play (λ y. (under_of y (links.given y)).place) (next_tag links x moment (sign_of mark))
+          course.places refl;
       opening = λ e. held_same ∙ opening mark calm_empty
-          (sym (mark-opens (link_of m x).is_open mark) ∙ (ap (λ (f : ℕ → Bool). opens_sign (f x) (sign_of mark)) (sym opens_same) ∙ e));
+          (sym (mark-opens (link_of m x).is_open mark) ∙
+          (ap (λ (f : ℕ → Bool). opens_sign (f x) (sign_of mark)) (sym opens_same) ∙ e));
       alone = λ calm. held_same ∙ calm_empty (sym (mark-realtime mark) ∙ calm);
       begun = λ l e sysex. tag-begin x (under_of x (links.given x)) (key_at moment x) (sign_of mark) l e sysex
           ∙ (given-begin x (links.given x) play.taken (course.taken x)
           ∙ ap (begin_behind (no_key x)) (course.order.turns.turns x
-          ∙ (ap (λ (o : Option Tag). filter (tag_in_turn x) (tags_passed play) ++ (filter (tag_in_turn x) (one o) ++ play.held x)) idle
+          ∙ (ap (λ (o : Option Tag). filter (tag_in_turn x) (tags_passed play) ++
+          (filter (tag_in_turn x) (one o) ++ play.held x)) idle
           ∙ (ap (λ ts. filter (tag_in_turn x) (tags_passed play) ++ ts) (free (sysex-calm (sign_of mark) l e sysex))
           ∙ append-nil (filter (tag_in_turn x) (tags_passed play))))));
       may_go = subst (λ (f : ℕ → Bool). MayGo (goes_out s) f t) (sym opens_same) may_go;
-      waits = λ rt some. subst (λ (f : ℕ → Bool). HasOwner (sharing s.routes) (stands play f (keys_of (offer_by m x moment mark true))) x Anyone) (sym opens_same)
-          (subst (λ (f : ℕ → List Key). HasOwner (sharing s.routes) (stands play (open_of m) f) x Anyone) (sym keys_same) (waits rt some));
+      waits = λ rt some. subst (λ (f : ℕ → Bool). HasOwner (sharing s.routes)
+          (stands play f (keys_of (offer_by m x moment mark true))) x Anyone) (sym opens_same)
+          (subst (λ (f : ℕ → List Key). HasOwner (sharing s.routes) (stands play (open_of m) f) x Anyone)
+          (sym keys_same) (waits rt some));
     }
 
 -- The mark is held.
@@ -364,7 +398,8 @@ course-holds : (s : Setup) (m : Merger) (links : Links) (K : Key) (play : Play) 
     (takes play false (next_tag links x moment (sign_of mark)))
 course-holds s m links K play x moment mark course may waits reached = record {
   reached = reached;
-  order = order-takes s.routes m play links.present links.stalled K t mark course.order none_offered idle below refl refl
+  order = order-takes s.routes m play links.present links.stalled K t mark course.order none_offered idle below refl
+      refl
       may.free may.here may.within closed calm;
   realtimes = realtimes_routed-takes s.routes m play t mark course.realtimes below closed
       (latest-of play (λ y. (under_of y (links.given y)).place) t course.places refl);
@@ -379,7 +414,8 @@ course-holds s m links K play x moment mark course may waits reached = record {
   sources = course.sources;
   taken = given-tags play links x moment (sign_of mark) course.taken;
   sorted = at_place (λ y (l : Link). AreSorted l.held l.last) m.links x (taken (link_of m x) false moment mark) below
-      (sorted-push (link_of m x).held (link_of m x).last (record { arrival = moment; mark = mark }) (course.sorted x) later)
+      (sorted-push (link_of m x).held (link_of m x).last (record { arrival = moment; mark = mark }) (course.sorted x)
+      later)
       (λ y apart. course.sorted y);
   full = offer-full m links x moment mark false below may.free course.full;
   sysex = given-open m links x moment mark false below fit course.sysex;
@@ -419,8 +455,17 @@ course-holds s m links K play x moment mark course may waits reached = record {
     tags_at y = ⊎_elim
         (λ (e : y ≡ x). subst (λ z. AreTags (with_held play.held x (play.held x ++ t ∷ []) z)) (sym e)
         (subst AreTags (sym (with_held-same play.held x (play.held x ++ t ∷ [])))
-        (AreTags-push (play.held x) t (course.held_tags x) (record { under = under_of x (links.given x); is = refl; link = refl; sound = mark-sound (is_open (signs_in (links.given x))) mark may.suits; begun = given-link x (links.given x) }))))
-        (λ (apart : y ≢ x). subst AreTags (sym (with_held-other play.held x y (play.held x ++ t ∷ []) apart)) (course.held_tags y))
+        (AreTags-push (play.held x) t (course.held_tags x)
+        (record {
+          under = under_of x (links.given x);
+          is = refl;
+          link = refl;
+          sound = mark-sound
+              (is_open (signs_in (links.given x))) mark may.suits;
+          begun = given-link x (links.given x);
+        }))))
+        (λ (apart : y ≢ x). subst AreTags (sym (with_held-other play.held x y (play.held x ++ t ∷ []) apart))
+        (course.held_tags y))
         (same_or_not y x)
 
 -- A mark of a link was taken.
@@ -438,7 +483,8 @@ course-takes s m links K play x moment mark course may = by_test (passes_now m x
         (ap (λ b. suits_sign b (sign_of mark)) (course.sysex x) ∙ may.suits)
         (course.in_time x (key_at moment x) may.here).0 may.drained may.room)
 
-    by_test : (passes : Bool) → passes_now m x mark ≡ passes → IsReached (start_of s) (offer_by m x moment mark passes) →
+    by_test : (passes : Bool) → passes_now m x mark ≡ passes → IsReached (start_of s) (offer_by m x moment mark passes)
+        →
         Course s (offer_by m x moment mark passes) (gives links x moment (sign_of mark)) K
         (takes play passes (next_tag links x moment (sign_of mark)))
     by_test true e got = course-accepts s m links K play x moment mark course may e got

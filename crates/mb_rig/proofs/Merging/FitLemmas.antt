@@ -1,26 +1,34 @@
 -- The lines of what passes are what its source's marks say: in whatever places real-time marks pass.
-use Rattle.std.proofs.Common.{◌≡◌, ◌≢◌, ◌⊎◌, inl, inr, ℕ, Bool, true, false, Some, None, List, [], ◌∷◌, ◌++◌, filter, refl, ap, sym, subst, ◌∙◌, arith}
+use Rattle.std.proofs.Common.{◌≡◌, ◌≢◌, ◌⊎◌, inl, inr, ℕ, Bool, true, false, Some, None, List, [], ◌∷◌, ◌++◌, filter}
+use Rattle.std.proofs.Common.{refl, ap, sym, subst, ◌∙◌, arith}
 use Rattle.std.specs.Prelude.{not, ◌&&◌, ◌==◌}
 use Rattle.std.proofs.lemmas.Bool.Decides.{nat_tests}
 use Rattle.mb_message.specs.Signs.{Sign, ShortSign, RtSign, OpenSign, ByteSign, EndSign, AbortSign}
 use Rattle.mb_stream.specs.Denotation.{Syx, Broken}
 use Rattle.mb_rig.specs.Merging.Lines.{Key, Line, Ends}
-use Rattle.mb_rig.specs.Merging.Tags.{Tag, Under, AreTags, tag_at, tags_from, line_at, under_after, tag_in_turn, is_realtime_sign}
+use Rattle.mb_rig.specs.Merging.Tags.{Tag, Under, AreTags, tag_at, tags_from, line_at, under_after, tag_in_turn}
+use Rattle.mb_rig.specs.Merging.Tags.{is_realtime_sign}
 use Rattle.mb_rig.specs.Merging.Heard.{with_under, unders_after, LineFitsData, LinesFit}
 use Rattle.mb_rig.proofs.Merging.Lateness.{true≢false, same_or_not, none≢some, some_same}
 use Rattle.mb_rig.proofs.Merging.SourceLines.{filter-cons}
 
 -- what completes depends on the data of the SysEx alone
-same_event : (source : ℕ) (u v : Under) (key other_key : Key) (m : Sign) → u.ds ≡ v.ds → (l k : Line) → line_at source u key m ≡ Some l → line_at source v other_key m ≡ Some k → l.event ≡ k.event
-same_event source u v key other_key (ShortSign s a b) same l k e f = ap (λ (x : Line). x.event) (sym (some_same e)) ∙ ap (λ (x : Line). x.event) (some_same f)
-same_event source u v key other_key (RtSign b) same l k e f = ap (λ (x : Line). x.event) (sym (some_same e)) ∙ ap (λ (x : Line). x.event) (some_same f)
+same_event : (source : ℕ) (u v : Under) (key other_key : Key) (m : Sign) → u.ds ≡ v.ds → (l k : Line) →
+    line_at source u key m ≡ Some l → line_at source v other_key m ≡ Some k → l.event ≡ k.event
+same_event source u v key other_key (ShortSign s a b) same l k e f = ap (λ (x : Line). x.event) (sym (some_same e))
+    ∙ ap (λ (x : Line). x.event) (some_same f)
+same_event source u v key other_key (RtSign b) same l k e f = ap (λ (x : Line). x.event) (sym (some_same e))
+    ∙ ap (λ (x : Line). x.event) (some_same f)
 same_event source u v key other_key OpenSign same l k e f = absurd (none≢some l e)
 same_event source u v key other_key (ByteSign b) same l k e f = absurd (none≢some l e)
-same_event source u v key other_key EndSign same l k e f = ap (λ (x : Line). x.event) (sym (some_same e)) ∙ (ap (λ ds. Ends (Syx ds)) same ∙ ap (λ (x : Line). x.event) (some_same f))
-same_event source u v key other_key AbortSign same l k e f = ap (λ (x : Line). x.event) (sym (some_same e)) ∙ (ap (λ ds. Ends (Broken ds)) same ∙ ap (λ (x : Line). x.event) (some_same f))
+same_event source u v key other_key EndSign same l k e f = ap (λ (x : Line). x.event) (sym (some_same e))
+    ∙ (ap (λ ds. Ends (Syx ds)) same ∙ ap (λ (x : Line). x.event) (some_same f))
+same_event source u v key other_key AbortSign same l k e f = ap (λ (x : Line). x.event) (sym (some_same e))
+    ∙ (ap (λ ds. Ends (Broken ds)) same ∙ ap (λ (x : Line). x.event) (some_same f))
 
 -- and whether something completes, on the mark alone
-line_there : (source : ℕ) (u v : Under) (key other_key : Key) (m : Sign) (l : Line) → line_at source u key m ≡ Some l → (k : Line) × (line_at source v other_key m ≡ Some k)
+line_there : (source : ℕ) (u v : Under) (key other_key : Key) (m : Sign) (l : Line) → line_at source u key m ≡ Some l →
+    (k : Line) × (line_at source v other_key m ≡ Some k)
 line_there source u v key other_key (ShortSign s a b) l e = (_, refl)
 line_there source u v key other_key (RtSign b) l e = (_, refl)
 line_there source u v key other_key OpenSign l e = absurd (none≢some l e)
@@ -28,7 +36,8 @@ line_there source u v key other_key (ByteSign b) l e = absurd (none≢some l e)
 line_there source u v key other_key EndSign l e = (_, refl)
 line_there source u v key other_key AbortSign l e = (_, refl)
 
-line_absent : (source : ℕ) (u v : Under) (key other_key : Key) (m : Sign) → line_at source u key m ≡ None → line_at source v other_key m ≡ None
+line_absent : (source : ℕ) (u v : Under) (key other_key : Key) (m : Sign) → line_at source u key m ≡ None →
+    line_at source v other_key m ≡ None
 line_absent source u v key other_key (ShortSign s a b) e = absurd (none≢some _ (sym e))
 line_absent source u v key other_key (RtSign b) e = absurd (none≢some _ (sym e))
 line_absent source u v key other_key OpenSign e = refl
@@ -46,7 +55,8 @@ tag-fits source u v key m same = record {
 
 fits-data : (u v : Under) (t : Tag) → u.ds ≡ v.ds → LineFitsData u t → LineFitsData v t
 fits-data u v t same fits = record {
-  events = λ l e k f. let g = line_there t.source v u t.key t.key t.sign k f in fits.events l e g.0 g.1 ∙ same_event t.source u v t.key t.key t.sign same g.0 k g.1 f;
+  events = λ l e k f. let g = line_there t.source v u t.key t.key t.sign k f in fits.events l e g.0 g.1
+      ∙ same_event t.source u v t.key t.key t.sign same g.0 k g.1 f;
   some = λ k f. let g = line_there t.source v u t.key t.key t.sign k f in fits.some g.0 g.1;
   none = λ f. fits.none (line_absent t.source v u t.key t.key t.sign f);
 }
@@ -66,16 +76,22 @@ same_after u v key AbortSign same = refl
 
 turns-data : (u v : Under) (ts : List Tag) → u.ds ≡ v.ds → FitsTurns u ts → FitsTurns v ts
 turns-data u v [] same fits = tt
-turns-data u v (t ∷ ts) same fits = (fits-data u v t same fits.0, turns-data (under_after u t.key t.sign) (under_after v t.key t.sign) ts (same_after u v t.key t.sign same) fits.1)
+turns-data u v (t ∷ ts) same fits = (
+  fits-data u v t same fits.0,
+  turns-data (under_after u t.key t.sign)
+      (under_after v t.key t.sign) ts (same_after u v t.key t.sign same) fits.1,
+)
 
 pub turns-front : (u : Under) (ts us : List Tag) → FitsTurns u (ts ++ us) → FitsTurns u ts
 turns-front u [] us fits = tt
 turns-front u (t ∷ ts) us fits = (fits.0, turns-front (under_after u t.key t.sign) ts us fits.1)
 
 -- a source's own reading fits
-pub reading-fits : (source : ℕ) (u v : Under) (ms : List (Key × Sign)) → u.ds ≡ v.ds → FitsTurns v (filter (λ (t : Tag). not (is_realtime_sign t.sign)) (tags_from source u ms))
+pub reading-fits : (source : ℕ) (u v : Under) (ms : List (Key × Sign)) → u.ds ≡ v.ds →
+    FitsTurns v (filter (λ (t : Tag). not (is_realtime_sign t.sign)) (tags_from source u ms))
 reading-fits source u v [] same = tt
-reading-fits source u v (m ∷ ms) same = by_kind (is_realtime_sign m.1) refl (λ w e. reading-fits source (under_after u m.0 m.1) w ms e)
+reading-fits source u v (m ∷ ms) same = by_kind (is_realtime_sign m.1) refl
+    (λ w e. reading-fits source (under_after u m.0 m.1) w ms e)
   where
     kept : (s : Sign) (key : Key) → is_realtime_sign s ≡ true → (under_after u key s).ds ≡ u.ds
     kept (ShortSign s a b) key e = refl
@@ -85,11 +101,16 @@ reading-fits source u v (m ∷ ms) same = by_kind (is_realtime_sign m.1) refl (�
     kept EndSign key e = absurd (true≢false (sym e))
     kept AbortSign key e = absurd (true≢false (sym e))
 
-    by_kind : (rt : Bool) → is_realtime_sign m.1 ≡ rt → ((w : Under) → (under_after u m.0 m.1).ds ≡ w.ds → FitsTurns w (filter (λ (t : Tag). not (is_realtime_sign t.sign)) (tags_from source (under_after u m.0 m.1) ms))) →
-        FitsTurns v (filter (λ (t : Tag). not (is_realtime_sign t.sign)) (tag_at source u m.0 m.1 ∷ tags_from source (under_after u m.0 m.1) ms))
-    by_kind true e rest = subst (FitsTurns v) (sym (filter-cons (λ (t : Tag). not (is_realtime_sign t.sign)) (tag_at source u m.0 m.1) (tags_from source (under_after u m.0 m.1) ms) false (ap not e)))
+    by_kind : (rt : Bool) → is_realtime_sign m.1 ≡ rt → ((w : Under) → (under_after u m.0 m.1).ds ≡ w.ds →
+        FitsTurns w (filter (λ (t : Tag). not (is_realtime_sign t.sign)) (tags_from source (under_after u m.0 m.1) ms)))
+        →
+        FitsTurns v (filter (λ (t : Tag). not (is_realtime_sign t.sign))
+        (tag_at source u m.0 m.1 ∷ tags_from source (under_after u m.0 m.1) ms))
+    by_kind true e rest = subst (FitsTurns v) (sym (filter-cons (λ (t : Tag). not (is_realtime_sign t.sign))
+        (tag_at source u m.0 m.1) (tags_from source (under_after u m.0 m.1) ms) false (ap not e)))
         (rest v (kept m.1 m.0 e ∙ same))
-    by_kind false e rest = subst (FitsTurns v) (sym (filter-cons (λ (t : Tag). not (is_realtime_sign t.sign)) (tag_at source u m.0 m.1) (tags_from source (under_after u m.0 m.1) ms) true (ap not e)))
+    by_kind false e rest = subst (FitsTurns v) (sym (filter-cons (λ (t : Tag). not (is_realtime_sign t.sign))
+        (tag_at source u m.0 m.1) (tags_from source (under_after u m.0 m.1) ms) true (ap not e)))
         (tag-fits source u v m.0 m.1 same, rest (under_after v m.0 m.1) (same_after u v m.0 m.1 same))
 
 -- a real-time tag fits anywhere
@@ -98,7 +119,8 @@ FitAnywhere [] = Unit {0}
 FitAnywhere (t ∷ ts) = (is_realtime_sign t.sign ≡ true → (u : Under) → LineFitsData u t) × FitAnywhere ts
 
 -- What passes, of all sources: where each source's turns fit, all lines do.
-pub lines-fit : (unders : ℕ → Under) (ts : List Tag) → ((x : ℕ) → FitsTurns (unders x) (filter (tag_in_turn x) ts)) → FitAnywhere ts → LinesFit unders ts
+pub lines-fit : (unders : ℕ → Under) (ts : List Tag) → ((x : ℕ) → FitsTurns (unders x) (filter (tag_in_turn x) ts)) →
+    FitAnywhere ts → LinesFit unders ts
 lines-fit unders [] turns rts = tt
 lines-fit unders (t ∷ ts) turns rts = (
   first (is_realtime_sign t.sign) refl,
@@ -113,7 +135,8 @@ lines-fit unders (t ∷ ts) turns rts = (
 
     first : (rt : Bool) → is_realtime_sign t.sign ≡ rt → LineFitsData (unders t.source) t
     first true e = rts.0 e (unders t.source)
-    first false e = (subst (FitsTurns (unders t.source)) (filter-cons (tag_in_turn t.source) t ts true (own false e)) (turns t.source)).0
+    first false e = (subst (FitsTurns (unders t.source)) (filter-cons (tag_in_turn t.source) t ts true (own false e))
+        (turns t.source)).0
 
     here : (u : Under) → with_under unders t.source u t.source ≡ u
     here u = grind (arith, nat_tests)
@@ -135,16 +158,23 @@ lines-fit unders (t ∷ ts) turns rts = (
     kept u EndSign key e = absurd (true≢false (sym e))
     kept u AbortSign key e = absurd (true≢false (sym e))
 
-    rest : (x : ℕ) (rt : Bool) → is_realtime_sign t.sign ≡ rt → (x ≡ t.source) ⊎ (x ≢ t.source) → FitsTurns (unders_after unders t x) (filter (tag_in_turn x) ts)
+    rest : (x : ℕ) (rt : Bool) → is_realtime_sign t.sign ≡ rt → (x ≡ t.source) ⊎ (x ≢ t.source) →
+        FitsTurns (unders_after unders t x) (filter (tag_in_turn x) ts)
     rest x true e (inl same) = subst (λ y. FitsTurns (unders_after unders t y) (filter (tag_in_turn y) ts)) (sym same)
-        (subst (λ u. FitsTurns u (filter (tag_in_turn t.source) ts)) (sym (here (under_after (unders t.source) t.key t.sign)))
-        (turns-data (unders t.source) (under_after (unders t.source) t.key t.sign) (filter (tag_in_turn t.source) ts) (kept (unders t.source) t.sign t.key e)
-        (subst (FitsTurns (unders t.source)) (filter-cons (tag_in_turn t.source) t ts false (own true e)) (turns t.source))))
+        (subst (λ u. FitsTurns u (filter (tag_in_turn t.source) ts))
+        (sym (here (under_after (unders t.source) t.key t.sign)))
+        (turns-data (unders t.source) (under_after (unders t.source) t.key t.sign) (filter (tag_in_turn t.source) ts)
+        (kept (unders t.source) t.sign t.key e)
+        (subst (FitsTurns (unders t.source)) (filter-cons (tag_in_turn t.source) t ts false (own true e))
+        (turns t.source))))
     rest x false e (inl same) = subst (λ y. FitsTurns (unders_after unders t y) (filter (tag_in_turn y) ts)) (sym same)
-        (subst (λ u. FitsTurns u (filter (tag_in_turn t.source) ts)) (sym (here (under_after (unders t.source) t.key t.sign)))
-        (subst (FitsTurns (unders t.source)) (filter-cons (tag_in_turn t.source) t ts true (own false e)) (turns t.source)).1)
+        (subst (λ u. FitsTurns u (filter (tag_in_turn t.source) ts))
+        (sym (here (under_after (unders t.source) t.key t.sign)))
+        (subst (FitsTurns (unders t.source)) (filter-cons (tag_in_turn t.source) t ts true (own false e))
+        (turns t.source)).1)
     rest x rt e (inr apart) =
-        subst (λ u. FitsTurns u (filter (tag_in_turn x) ts)) (sym (elsewhere x (under_after (unders t.source) t.key t.sign) apart))
+        subst (λ u. FitsTurns u (filter (tag_in_turn x) ts))
+        (sym (elsewhere x (under_after (unders t.source) t.key t.sign) apart))
         (subst (FitsTurns (unders x)) (filter-cons (tag_in_turn x) t ts false (differ x apart)) (turns x))
 
 realtime-fits : (source : ℕ) (u v : Under) (key : Key) (m : Sign) → is_realtime_sign m ≡ true →

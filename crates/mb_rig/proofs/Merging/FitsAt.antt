@@ -28,8 +28,11 @@ none_or : (a : Bool) → (false || a) ≡ a
 none_or a = refl
 
 pub fits_all : (routes : List (ℕ × ℕ)) (x : Line) (before between : List Passing)
-    → ((k : ℕ) (p : Passing) → slice_get before k ≡ Some p → fits_at routes x (overtakes routes (take k before) x || overtakes routes between x) p ≡ true)
+    → ((k : ℕ) (p : Passing) → slice_get before k ≡ Some p → fits_at routes x
+    (overtakes routes (take k before) x || overtakes routes between x) p ≡ true)
     → realtimes_fit routes x between before ≡ true
 fits_all routes x [] between each = refl
 fits_all routes x (p ∷ before) between each = and_true _ _ (each 0 p refl)
-    (fits_all routes x before (p ∷ between) (λ k q at. subst (λ b. fits_at routes x b q ≡ true) (turned (may_hold routes p.line x) (overtakes routes (take k before) x) (overtakes routes between x)) (each (suc k) q at)))
+    (fits_all routes x before (p ∷ between) (λ k q at. subst (λ b. fits_at routes x b q ≡ true)
+    (turned (may_hold routes p.line x) (overtakes routes (take k before) x) (overtakes routes between x))
+    (each (suc k) q at)))

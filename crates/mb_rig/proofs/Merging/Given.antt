@@ -101,9 +101,11 @@ tag-place t is l e =
 ends-line : (source : ℕ) (u : Under) (key : Key) (m : Sign) → (m ≡ EndSign) ⊎ (m ≡ AbortSign) →
     (l : Line) × (line_at source u key m ≡ Some l) × (is_sysex l.event ≡ true)
 ends-line source u key m (inl e) =
-    subst (λ (x : Sign). (l : Line) × (line_at source u key x ≡ Some l) × (is_sysex l.event ≡ true)) (sym e) (_, refl, refl)
+    subst (λ (x : Sign). (l : Line) × (line_at source u key x ≡ Some l) × (is_sysex l.event ≡ true)) (sym e)
+    (_, refl, refl)
 ends-line source u key m (inr e) =
-    subst (λ (x : Sign). (l : Line) × (line_at source u key x ≡ Some l) × (is_sysex l.event ≡ true)) (sym e) (_, refl, refl)
+    subst (λ (x : Sign). (l : Line) × (line_at source u key x ≡ Some l) × (is_sysex l.event ≡ true)) (sym e)
+    (_, refl, refl)
 
 pub tag-ends : (t : Tag) → IsTag t → (t.sign ≡ EndSign) ⊎ (t.sign ≡ AbortSign) →
     (l : Line) × (t.line ≡ Some l) × (is_sysex l.event ≡ true)
@@ -152,7 +154,8 @@ begin-turns begin (t ∷ ts) = by_kind (is_realtime_sign t.sign) refl (λ k. beg
         begin_behind k ts ≡ begin_behind k (filter (λ (u : Tag). not (is_realtime_sign u.sign)) ts)) →
         begin_behind begin (t ∷ ts) ≡ begin_behind begin (filter (λ (u : Tag). not (is_realtime_sign u.sign)) (t ∷ ts))
     by_kind true e rest = ap (λ k. begin_behind k ts) (realtime-begins begin t.key t.sign e) ∙ (rest begin
-        ∙ ap (begin_behind begin) (sym (filter-cons (λ (u : Tag). not (is_realtime_sign u.sign)) t ts false (ap not e))))
+        ∙ ap (begin_behind begin) (sym (filter-cons (λ (u : Tag). not (is_realtime_sign u.sign)) t ts false
+        (ap not e))))
     by_kind false e rest = rest (begin_then begin t)
         ∙ ap (begin_behind begin) (sym (filter-cons (λ (u : Tag). not (is_realtime_sign u.sign)) t ts true (ap not e)))
 
@@ -186,8 +189,10 @@ line-begin : (source : ℕ) (u : Under) (key : Key) (m : Sign) (l : Line) → li
     is_sysex l.event ≡ true → l.begin ≡ u.begin
 line-begin source u key OpenSign l e s = absurd (none≢some l e)
 line-begin source u key (ByteSign b) l e s = absurd (none≢some l e)
-line-begin source u key (ShortSign a b c) l e s = absurd (true≢false (sym s ∙ ap (λ (x : Line). is_sysex x.event) (sym (some_same e))))
-line-begin source u key (RtSign b) l e s = absurd (true≢false (sym s ∙ ap (λ (x : Line). is_sysex x.event) (sym (some_same e))))
+line-begin source u key (ShortSign a b c) l e s = absurd
+    (true≢false (sym s ∙ ap (λ (x : Line). is_sysex x.event) (sym (some_same e))))
+line-begin source u key (RtSign b) l e s = absurd (true≢false
+    (sym s ∙ ap (λ (x : Line). is_sysex x.event) (sym (some_same e))))
 line-begin source u key EndSign l e s = ap (λ (x : Line). x.begin) (sym (some_same e))
 line-begin source u key AbortSign l e s = ap (λ (x : Line). x.begin) (sym (some_same e))
 

@@ -29,25 +29,33 @@ and_front true b e = refl
 and_front false b e = absurd (true≢false (sym e))
 
 -- two open sources of one out are one
-pub one_open : (m : Merger) → IsExclusive m.links → (o s u : ℕ) → opened_by m s ≡ true → opened_by m u ≡ true → goes_by m o s ≡ true → goes_by m o u ≡ true → s ≡ u
+pub one_open : (m : Merger) → IsExclusive m.links → (o s u : ℕ) → opened_by m s ≡ true → opened_by m u ≡ true →
+    goes_by m o s ≡ true → goes_by m o u ≡ true → s ≡ u
 one_open m alone o s u open_s open_u goes_s goes_u =
-    one_owner m.links o s u alone (open_within m.links s open_s) (open_within m.links u open_u) (and-true _ _ open_s goes_s) (and-true _ _ open_u goes_u)
+    one_owner m.links o s u alone (open_within m.links s open_s) (open_within m.links u open_u)
+    (and-true _ _ open_s goes_s) (and-true _ _ open_u goes_u)
 
-pub may-go : (m : Merger) (t : Tag) (mark : Mark) → sign_of mark ≡ t.sign → may_pass m.links t.source mark ≡ true → suits_sign (opened_by m t.source) (sign_of mark) ≡ true → MayGo (goes_by m) (opened_by m) t
+pub may-go : (m : Merger) (t : Tag) (mark : Mark) → sign_of mark ≡ t.sign → may_pass m.links t.source mark ≡ true →
+    suits_sign (opened_by m t.source) (sign_of mark) ≡ true → MayGo (goes_by m) (opened_by m) t
 may-go m t mark is may fits = record {
   outside = λ e. out_by mark may fits (ap (suits_sign true) is ∙ e);
   inside = λ e. in_by mark fits (ap (suits_sign false) is ∙ e);
 }
   where
-    owned_not : (o x : ℕ) → is_owned m.links t.source ≡ false → opened_by m t.source ≡ false → goes_by m o t.source ≡ true → goes_by m o x ≡ true → opened_by m x ≡ true → ⊥
+    owned_not : (o x : ℕ) → is_owned m.links t.source ≡ false → opened_by m t.source ≡ false →
+        goes_by m o t.source ≡ true → goes_by m o x ≡ true → opened_by m x ≡ true → ⊥
     owned_not o x free closed here there open_x = ⊎_elim
         (λ (same : x ≡ t.source). true≢false (sym open_x ∙ (ap (opened_by m) same ∙ closed)))
-        (λ (apart : x ≢ t.source). true≢false (sym (is_owned_below-hit m.links t.source x (length m.links) (open_within m.links x open_x)
-        (takes_from_is m.links t.source x apart (and-true _ _ open_x (share-at o (link_of m x).outs (link_of m t.source).outs there here)))) ∙ free))
+        (λ (apart : x ≢ t.source). true≢false (sym (is_owned_below-hit m.links t.source x (length m.links)
+        (open_within m.links x open_x)
+        (takes_from_is m.links t.source x apart (and-true _ _ open_x
+        (share-at o (link_of m x).outs (link_of m t.source).outs there here)))) ∙ free))
         (same_or_not x t.source)
 
-    out_by : (mark : Mark) → may_pass m.links t.source mark ≡ true → suits_sign (opened_by m t.source) (sign_of mark) ≡ true → suits_sign true (sign_of mark) ≡ false →
-        (opened_by m t.source ≡ false) × ((o s : ℕ) → goes_by m o t.source ≡ true → goes_by m o s ≡ true → opened_by m s ≡ true → ⊥)
+    out_by : (mark : Mark) → may_pass m.links t.source mark ≡ true → suits_sign (opened_by m t.source)
+        (sign_of mark) ≡ true → suits_sign true (sign_of mark) ≡ false →
+        (opened_by m t.source ≡ false) × ((o s : ℕ) → goes_by m o t.source ≡ true → goes_by m o s ≡ true →
+        opened_by m s ≡ true → ⊥)
     out_by (Short s) may fits e = (no_not _ fits, λ o x. owned_not o x (no_not _ may) (no_not _ fits))
     out_by (Rt r) may fits e = absurd (true≢false e)
     out_by Open may fits e = (no_not _ fits, λ o x. owned_not o x (no_not _ may) (no_not _ fits))
@@ -59,7 +67,8 @@ may-go m t mark is may fits = record {
     out_by End may fits e = absurd (true≢false e)
     out_by Abort may fits e = absurd (true≢false e)
 
-    in_by : (mark : Mark) → suits_sign (opened_by m t.source) (sign_of mark) ≡ true → suits_sign false (sign_of mark) ≡ false → opened_by m t.source ≡ true
+    in_by : (mark : Mark) → suits_sign (opened_by m t.source) (sign_of mark) ≡ true →
+        suits_sign false (sign_of mark) ≡ false → opened_by m t.source ≡ true
     in_by (Short s) fits e = absurd (true≢false e)
     in_by (Rt r) fits e = absurd (true≢false e)
     in_by Open fits e = absurd (true≢false e)

@@ -40,7 +40,8 @@ both-filters f g [] n same are = refl
 both-filters f g (t ∷ ts) n same are = by_test (g t) refl (both-filters f g ts n same are.1)
   where
     by_test : (c : Bool) → g t ≡ c → filter f ts ≡ filter g ts → filter f (t ∷ ts) ≡ filter g (t ∷ ts)
-    by_test true e rest = filter-cons f t ts true (same t are.0 ∙ e) ∙ (ap (λ us. t ∷ us) rest ∙ sym (filter-cons g t ts true e))
+    by_test true e rest = filter-cons f t ts true (same t are.0 ∙ e)
+        ∙ (ap (λ us. t ∷ us) rest ∙ sym (filter-cons g t ts true e))
     by_test false e rest = filter-cons f t ts false (same t are.0 ∙ e) ∙ (rest ∙ sym (filter-cons g t ts false e))
 
 -- the turns of a source among the tags to an out
@@ -48,7 +49,8 @@ turns-to : (routes : List (ℕ × ℕ)) (out x : ℕ) (ts : List Tag) (c : Bool)
     filter (tag_in_turn x) (tags_to routes out ts) ≡ (if c then filter (tag_in_turn x) ts else [])
 turns-to routes out x [] true e = refl
 turns-to routes out x [] false e = refl
-turns-to routes out x (t ∷ ts) c e = by_tests (goes routes t.source out) refl (tag_in_turn x t) refl c e (turns-to routes out x ts c e)
+turns-to routes out x (t ∷ ts) c e = by_tests (goes routes t.source out) refl (tag_in_turn x t) refl c e
+    (turns-to routes out x ts c e)
   where
     own : (t : Tag) → tag_in_turn x t ≡ true → t.source ≡ x
     own t e = same t.source x (first (t.source == x) (not (is_realtime_sign t.sign)) e)
@@ -60,7 +62,8 @@ turns-to routes out x (t ∷ ts) c e = by_tests (goes routes t.source out) refl 
         same : (a b : ℕ) → (a == b) ≡ true → a ≡ b
         same a b e = grind (arith, nat_tests)
 
-    by_tests : (g : Bool) → goes routes t.source out ≡ g → (h : Bool) → tag_in_turn x t ≡ h → (c : Bool) → goes routes x out ≡ c →
+    by_tests : (g : Bool) → goes routes t.source out ≡ g → (h : Bool) → tag_in_turn x t ≡ h → (c : Bool) →
+        goes routes x out ≡ c →
         filter (tag_in_turn x) (tags_to routes out ts) ≡ (if c then filter (tag_in_turn x) ts else []) →
         filter (tag_in_turn x) (tags_to routes out (t ∷ ts)) ≡ (if c then filter (tag_in_turn x) (t ∷ ts) else [])
     by_tests true g true h true k rest =
@@ -114,17 +117,20 @@ out-fits : (s : Setup) (m : Merger) (links : Links) (K : Key) (play : Play) → 
     LinesFit nothing_under (tags_to s.routes out (tags_passed play))
 out-fits s m links K play course out =
     lines-fit nothing_under (tags_to s.routes out (tags_passed play)) (λ x. by_goes x (goes s.routes x out) refl)
-    (anywhere-filter (λ (t : Tag). goes s.routes t.source out) (tags_passed play) (tags-fit (tags_passed play) course.passed_tags))
+    (anywhere-filter (λ (t : Tag). goes s.routes t.source out) (tags_passed play)
+    (tags-fit (tags_passed play) course.passed_tags))
   where
     by_goes : (x : ℕ) (c : Bool) → goes s.routes x out ≡ c →
         FitsTurns (nothing_under x) (filter (tag_in_turn x) (tags_to s.routes out (tags_passed play)))
     by_goes x true e = subst (FitsTurns (nothing_under x)) (sym (turns-to s.routes out x (tags_passed play) true e))
         (turns-fit s m links K play course x)
-    by_goes x false e = subst (FitsTurns (nothing_under x)) (sym (turns-to s.routes out x (tags_passed play) false e)) tt
+    by_goes x false e = subst (FitsTurns (nothing_under x)) (sym (turns-to s.routes out x (tags_passed play) false e))
+        tt
 
 same-tags : (s : Setup) (out : ℕ) (ts : List Tag) → out < 16 → AreWithin (length s.ins) ts →
     filter (λ (t : Tag). goes_out s out t.source) ts ≡ tags_to s.routes out ts
-same-tags s out ts below are = both-filters (λ (t : Tag). goes_out s out t.source) (λ (t : Tag). goes s.routes t.source out) ts
+same-tags s out ts below are = both-filters (λ (t : Tag). goes_out s out t.source)
+    (λ (t : Tag). goes s.routes t.source out) ts
     (length s.ins) (λ t within. routed (length s.ins) (length s.outs) t.source out s.routes within below) are
 
 out-follows : (s : Setup) (m : Merger) (links : Links) (K : Key) (play : Play) → Course s m links K play → (out : ℕ) →
@@ -145,26 +151,35 @@ lines-to routes out (p ∷ ps) are =
 
     by_line : (line : Option Line) → p.tag.line ≡ line → (c : Bool) → goes routes p.tag.source out ≡ c →
         lines_heard (tags_to routes out (map (λ (x : PassedTag). x.tag) ps)) ≡ lines_to routes out (report_of ps) →
-        lines_heard (tags_to routes out (p.tag ∷ map (λ (x : PassedTag). x.tag) ps)) ≡ lines_to routes out (report_of (p ∷ ps))
+        lines_heard (tags_to routes out (p.tag ∷ map (λ (x : PassedTag). x.tag) ps)) ≡ lines_to routes out
+        (report_of (p ∷ ps))
     by_line None e true g rest =
-        ap lines_heard (filter-cons (λ (t : Tag). goes routes t.source out) p.tag (map (λ (x : PassedTag). x.tag) ps) true g)
-        ∙ (ap (λ (o : Option Line). (elim o [ None ↦ [] | Some l ↦ l ∷ [] ]) ++ lines_heard (tags_to routes out (map (λ (x : PassedTag). x.tag) ps))) e
+        ap lines_heard (filter-cons (λ (t : Tag). goes routes t.source out) p.tag (map (λ (x : PassedTag). x.tag) ps)
+        true g)
+        ∙ (ap (λ (o : Option Line). (elim o [ None ↦ [] | Some l ↦ l ∷ [] ]) ++ lines_heard
+        (tags_to routes out (map (λ (x : PassedTag). x.tag) ps))) e
         ∙ (rest ∙ ap (λ (o : Option Line). lines_to routes out (line_of p.moment o ++ report_of ps)) (sym e)))
     by_line None e false g rest =
-        ap lines_heard (filter-cons (λ (t : Tag). goes routes t.source out) p.tag (map (λ (x : PassedTag). x.tag) ps) false g)
+        ap lines_heard (filter-cons (λ (t : Tag). goes routes t.source out) p.tag (map (λ (x : PassedTag). x.tag) ps)
+        false g)
         ∙ (rest ∙ ap (λ (o : Option Line). lines_to routes out (line_of p.moment o ++ report_of ps)) (sym e))
     by_line (Some l) e true g rest =
         let own : goes routes l.source out ≡ true = ap (λ y. goes routes y out) (tag-line p.tag are.0 l e).0 ∙ g in
-        ap lines_heard (filter-cons (λ (t : Tag). goes routes t.source out) p.tag (map (λ (x : PassedTag). x.tag) ps) true g)
-        ∙ (ap (λ (o : Option Line). (elim o [ None ↦ [] | Some l ↦ l ∷ [] ]) ++ lines_heard (tags_to routes out (map (λ (x : PassedTag). x.tag) ps))) e
+        ap lines_heard (filter-cons (λ (t : Tag). goes routes t.source out) p.tag (map (λ (x : PassedTag). x.tag) ps)
+        true g)
+        ∙ (ap (λ (o : Option Line). (elim o [ None ↦ [] | Some l ↦ l ∷ [] ]) ++ lines_heard
+        (tags_to routes out (map (λ (x : PassedTag). x.tag) ps))) e
         ∙ (ap (λ ls. l ∷ ls) rest
-        ∙ (sym (ap (map (λ (q : Passing). q.line)) (filter-cons (λ (q : Passing). goes routes q.line.source out) (record { line = l; moment = p.moment }) (report_of ps) true own))
+        ∙ (sym (ap (map (λ (q : Passing). q.line)) (filter-cons (λ (q : Passing). goes routes q.line.source out)
+        (record { line = l; moment = p.moment }) (report_of ps) true own))
         ∙ ap (λ (o : Option Line). lines_to routes out (line_of p.moment o ++ report_of ps)) (sym e))))
     by_line (Some l) e false g rest =
         let own : goes routes l.source out ≡ false = ap (λ y. goes routes y out) (tag-line p.tag are.0 l e).0 ∙ g in
-        ap lines_heard (filter-cons (λ (t : Tag). goes routes t.source out) p.tag (map (λ (x : PassedTag). x.tag) ps) false g)
+        ap lines_heard (filter-cons (λ (t : Tag). goes routes t.source out) p.tag (map (λ (x : PassedTag). x.tag) ps)
+        false g)
         ∙ (rest
-        ∙ (sym (ap (map (λ (q : Passing). q.line)) (filter-cons (λ (q : Passing). goes routes q.line.source out) (record { line = l; moment = p.moment }) (report_of ps) false own))
+        ∙ (sym (ap (map (λ (q : Passing). q.line)) (filter-cons (λ (q : Passing). goes routes q.line.source out)
+        (record { line = l; moment = p.moment }) (report_of ps) false own))
         ∙ ap (λ (o : Option Line). lines_to routes out (line_of p.moment o ++ report_of ps)) (sym e)))
 
 pub signs-to : (routes : List (ℕ × ℕ)) (out : ℕ) (ps : List PassedTag) →
@@ -174,35 +189,44 @@ signs-to routes out (p ∷ ps) = by_test (goes routes p.tag.source out) refl (si
   where
     by_test : (c : Bool) → goes routes p.tag.source out ≡ c →
         signs_in (puts_to routes out ps) ≡ signs_heard (tags_to routes out (map (λ (x : PassedTag). x.tag) ps)) →
-        signs_in (puts_to routes out (p ∷ ps)) ≡ signs_heard (tags_to routes out (p.tag ∷ map (λ (x : PassedTag). x.tag) ps))
+        signs_in (puts_to routes out (p ∷ ps)) ≡ signs_heard
+        (tags_to routes out (p.tag ∷ map (λ (x : PassedTag). x.tag) ps))
     by_test true e rest =
         ap (λ qs. signs_in (map put_of qs)) (passed-cons (λ (x : PassedTag). goes routes x.tag.source out) p ps true e)
         ∙ (ap (λ (ms : List Sign). p.tag.sign ∷ ms) rest
-        ∙ ap signs_heard (sym (filter-cons (λ (t : Tag). goes routes t.source out) p.tag (map (λ (x : PassedTag). x.tag) ps) true e)))
+        ∙ ap signs_heard (sym (filter-cons (λ (t : Tag). goes routes t.source out) p.tag
+        (map (λ (x : PassedTag). x.tag) ps) true e)))
       where
         passed-cons : (f : PassedTag → Bool) (x : PassedTag) (xs : List PassedTag) (c : Bool) → f x ≡ c →
             filter f (x ∷ xs) ≡ (if c then x ∷ filter f xs else filter f xs)
         passed-cons f x xs c e = filter-cons f x xs c e
     by_test false e rest =
         ap (λ qs. signs_in (map put_of qs)) (filter-cons (λ (x : PassedTag). goes routes x.tag.source out) p ps false e)
-        ∙ (rest ∙ ap signs_heard (sym (filter-cons (λ (t : Tag). goes routes t.source out) p.tag (map (λ (x : PassedTag). x.tag) ps) false e)))
+        ∙ (rest ∙ ap signs_heard (sym (filter-cons (λ (t : Tag). goes routes t.source out) p.tag
+        (map (λ (x : PassedTag). x.tag) ps) false e)))
 
 -- What passed to an out means so far what the report's lines to it mean.
-pub course-heard : (s : Setup) (m : Merger) (links : Links) (K : Key) (play : Play) (out : ℕ) → Course s m links K play →
+pub course-heard : (s : Setup) (m : Merger) (links : Links) (K : Key) (play : Play) (out : ℕ) →
+    Course s m links K play →
     out < 16 → MeansSoFar (signs_in (puts_to s.routes out play.passed)) (lines_to s.routes out (report_of play.passed))
 course-heard s m links K play out course below =
-    subst (λ (ms : List Sign). MeansSoFar ms (lines_to s.routes out (report_of play.passed))) (sym (signs-to s.routes out play.passed))
-    (subst (MeansSoFar (signs_heard (tags_to s.routes out (tags_passed play)))) (lines-to s.routes out play.passed course.passed_tags)
+    subst (λ (ms : List Sign). MeansSoFar ms (lines_to s.routes out (report_of play.passed)))
+    (sym (signs-to s.routes out play.passed))
+    (subst (MeansSoFar (signs_heard (tags_to s.routes out (tags_passed play))))
+    (lines-to s.routes out play.passed course.passed_tags)
     (record {
-      open_data = open_data (end_unders nothing_under (tags_to s.routes out (tags_passed play))) (end_owner None (tags_to s.routes out (tags_passed play)));
-      items = items-heard nothing_under None (tags_to s.routes out (tags_passed play)) (out-fits s m links K play course out)
+      open_data = open_data (end_unders nothing_under (tags_to s.routes out (tags_passed play)))
+          (end_owner None (tags_to s.routes out (tags_passed play)));
+      items = items-heard nothing_under None (tags_to s.routes out (tags_passed play))
+          (out-fits s m links K play course out)
           (out-follows s m links K play course out below);
       realtimes = realtimes-heard nothing_under None 0 (tags_to s.routes out (tags_passed play))
           (out-fits s m links K play course out) (out-follows s m links K play course out below);
     }))
 
 -- At the end it means just that.
-pub course-means : (s : Setup) (m : Merger) (links : Links) (K : Key) (play : Play) (out : ℕ) → Course s m links K play →
+pub course-means : (s : Setup) (m : Merger) (links : Links) (K : Key) (play : Play) (out : ℕ) →
+    Course s m links K play →
     m.draining ≡ false → ((x : ℕ) → links.present x ≡ None) → out < 16 →
     denotation (signs_in (puts_to s.routes out play.passed)) ≡ meant_by (lines_to s.routes out (report_of play.passed))
 course-means s m links K play out course quiet over below =
@@ -216,23 +240,31 @@ course-means s m links K play out course quiet over below =
     no_owner = by_owner (end_owner None (filter (λ (t : Tag). goes_out s out t.source) (tags_passed play))) refl
         (ap (end_owner None) (same-tags s out (tags_passed play) below course.sources))
       where
-        by_owner : (o : Option ℕ) → end_owner None (filter (λ (t : Tag). goes_out s out t.source) (tags_passed play)) ≡ o →
-            end_owner None (filter (λ (t : Tag). goes_out s out t.source) (tags_passed play)) ≡ end_owner None (tags_to s.routes out (tags_passed play)) →
+        by_owner : (o : Option ℕ) → end_owner None (filter (λ (t : Tag). goes_out s out t.source) (tags_passed play)) ≡
+            o →
+            end_owner None (filter (λ (t : Tag). goes_out s out t.source) (tags_passed play)) ≡ end_owner None
+            (tags_to s.routes out (tags_passed play)) →
             end_owner None (tags_to s.routes out (tags_passed play)) ≡ None
         by_owner None e same = sym same ∙ e
-        by_owner (Some x) e same = absurd (true≢false (sym (course.outs.owner out x e).0 ∙ all-closed s m links K play course quiet over x))
+        by_owner (Some x) e same = absurd (true≢false (sym (course.outs.owner out x e).0
+            ∙ all-closed s m links K play course quiet over x))
 
-    items : (denotation (signs_heard (tags_to s.routes out (tags_passed play)))).items ≡ items_of (lines_heard (tags_to s.routes out (tags_passed play)))
-    items = items-heard nothing_under None (tags_to s.routes out (tags_passed play)) (out-fits s m links K play course out)
+    items : (denotation (signs_heard (tags_to s.routes out (tags_passed play)))).items ≡ items_of
+        (lines_heard (tags_to s.routes out (tags_passed play)))
+    items = items-heard nothing_under None (tags_to s.routes out (tags_passed play))
+        (out-fits s m links K play course out)
         (out-follows s m links K play course out below)
-        ∙ (ap (λ o. items_of (lines_heard (tags_to s.routes out (tags_passed play))) ++ left_open (open_data (end_unders nothing_under (tags_to s.routes out (tags_passed play))) o)) no_owner
+        ∙ (ap (λ o. items_of (lines_heard (tags_to s.routes out (tags_passed play))) ++ left_open
+        (open_data (end_unders nothing_under (tags_to s.routes out (tags_passed play))) o)) no_owner
         ∙ append-nil (items_of (lines_heard (tags_to s.routes out (tags_passed play)))))
 
-    realtimes : (denotation (signs_heard (tags_to s.routes out (tags_passed play)))).realtimes ≡ realtimes_of 0 (lines_heard (tags_to s.routes out (tags_passed play)))
+    realtimes : (denotation (signs_heard (tags_to s.routes out (tags_passed play)))).realtimes ≡ realtimes_of 0
+        (lines_heard (tags_to s.routes out (tags_passed play)))
     realtimes = realtimes-heard nothing_under None 0 (tags_to s.routes out (tags_passed play))
         (out-fits s m links K play course out) (out-follows s m links K play course out below)
 
-    same_meaning : denotation (signs_heard (tags_to s.routes out (tags_passed play))) ≡ meant_by (lines_heard (tags_to s.routes out (tags_passed play)))
+    same_meaning : denotation (signs_heard (tags_to s.routes out (tags_passed play))) ≡ meant_by
+        (lines_heard (tags_to s.routes out (tags_passed play)))
     same_meaning = λ i. record { items = items i; realtimes = realtimes i }
 
 -- The marks may stand there, one after another, and are such as a stream can have.
@@ -242,20 +274,25 @@ owned-suits o [] follows are = tt
 owned-suits o (t ∷ ts) follows are =
     by_sign t.sign are.0.sound follows.0 (owned-suits (owner_behind o t.source t.sign) ts follows.1 are.1)
   where
-    by_sign : (m : Sign) → is_sound m ≡ true → MayFollow o t.source m → Suited (is_taken (owner_behind o t.source m)) (signs_heard ts) →
+    by_sign : (m : Sign) → is_sound m ≡ true → MayFollow o t.source m →
+        Suited (is_taken (owner_behind o t.source m)) (signs_heard ts) →
         Suited (is_taken o) (m ∷ signs_heard ts)
     by_sign (ShortSign s a b) sound may rest =
         (ap (λ x. not (is_taken x)) may, subst (λ (c : Bool). Suited c (signs_heard ts)) (ap is_taken may) rest)
     by_sign (RtSign b) sound may rest = (refl, rest)
     by_sign OpenSign sound may rest = (ap (λ x. not (is_taken x)) may, rest)
-    by_sign (ByteSign b) sound may rest =
-        (ap (λ x. is_taken x && is_data b) may ∙ sound, subst (λ (c : Bool). Suited c (signs_heard ts)) (ap is_taken may) rest)
+    by_sign (ByteSign b) sound may rest = (
+      ap (λ x. is_taken x && is_data b) may ∙ sound,
+      subst (λ (c : Bool). Suited c (signs_heard ts))
+          (ap is_taken may) rest,
+    )
     by_sign EndSign sound may rest = (ap is_taken may, rest)
     by_sign AbortSign sound may rest = (ap is_taken may, rest)
 
 tags-valid : (ts : List Tag) → AreTags ts → AreValid (signs_heard ts)
 tags-valid [] are = refl
-tags-valid (t ∷ ts) are = both (is_valid t.sign) (list_all is_valid (signs_heard ts)) (by_sign t.sign are.0.sound) (tags-valid ts are.1)
+tags-valid (t ∷ ts) are = both (is_valid t.sign) (list_all is_valid (signs_heard ts)) (by_sign t.sign are.0.sound)
+    (tags-valid ts are.1)
   where
     both : (a b : Bool) → a ≡ true → b ≡ true → (a && b) ≡ true
     both true b e f = f
@@ -269,10 +306,13 @@ tags-valid (t ∷ ts) are = both (is_valid t.sign) (list_all is_valid (signs_hea
     by_sign EndSign sound = refl
     by_sign AbortSign sound = refl
 
-pub course-suits : (s : Setup) (m : Merger) (links : Links) (K : Key) (play : Play) (out : ℕ) → Course s m links K play →
-    out < 16 → (suited (signs_in (puts_to s.routes out play.passed)) ≡ true) × AreValid (signs_in (puts_to s.routes out play.passed))
+pub course-suits : (s : Setup) (m : Merger) (links : Links) (K : Key) (play : Play) (out : ℕ) →
+    Course s m links K play →
+    out < 16 → (suited (signs_in (puts_to s.routes out play.passed)) ≡ true) × AreValid
+    (signs_in (puts_to s.routes out play.passed))
 course-suits s m links K play out course below = (
-  ap suited (signs-to s.routes out play.passed) ∙ suited-from_Suited (signs_heard (tags_to s.routes out (tags_passed play)))
+  ap suited (signs-to s.routes out play.passed) ∙ suited-from_Suited
+      (signs_heard (tags_to s.routes out (tags_passed play)))
       (owned-suits None (tags_to s.routes out (tags_passed play)) (out-follows s m links K play course out below)
       (tags-filter (λ (t : Tag). goes s.routes t.source out) (tags_passed play) course.passed_tags)),
   ap (list_all is_valid) (signs-to s.routes out play.passed) ∙ tags-valid (tags_to s.routes out (tags_passed play))

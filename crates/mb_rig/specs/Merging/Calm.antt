@@ -1,6 +1,6 @@
 -- A run in which no link was ever stalled: its steps are taken in the order of their keys.
 --
---   Calm s m links K play    no link is stalled, none has a record below the greatest key, and lines are held back exactly
+-- Calm s m links K play no link is stalled, none has a record below the greatest key, and lines are held back exactly
 use Rattle.std.specs.Prelude.{◌≡◌, ℕ, false, Some}
 use Rattle.mb_merge.specs.Links.{Merger}
 use Rattle.mb_rig.specs.RigText.{Setup}

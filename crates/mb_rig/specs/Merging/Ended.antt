@@ -5,7 +5,7 @@
 --   turns_in signs           the marks that aren't real-time
 --   IsMerged s ss report     the report is merged from the sources, and in order
 --   IsMergedFront s ss r     where a run stopped: fronts of each source's lines, in order
---   MeansSoFar signs lines   what the marks at an out mean: what the lines to it mean, and a last broken SysEx where one
+-- MeansSoFar signs lines what the marks at an out mean: what the lines to it mean, and a last broken SysEx where one
 --                            is open there
 use Rattle.std.specs.Prelude.{◌≡◌, ℕ, ◌+◌, true, not, List, [], ◌∷◌, ◌++◌, map, filter, Option}
 use Rattle.mb_message.specs.Front.{IsFront}
@@ -60,4 +60,5 @@ AreGiven links at (source ∷ rest) = (links.given at ≡ marks_of source) × Ar
 
 abbrev pub AreGivenFronts : Links → (at : ℕ) → List Source → Type 0
 AreGivenFronts links at [] = Unit {0}
-AreGivenFronts links at (source ∷ rest) = IsFront (links.given at) (marks_of source) × AreGivenFronts links (at + 1) rest
+AreGivenFronts links at (source ∷ rest) = IsFront (links.given at) (marks_of source) × AreGivenFronts links (at + 1)
+    rest

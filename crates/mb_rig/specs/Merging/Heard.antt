@@ -1,7 +1,7 @@
 -- What passes to an out, mark by mark, against the lines that it completes.
 --
 --   LinesFit unders ts       each tag's line is what its source's marks so far say
---   Follows open ts          the tags may stand at an out one after another: `open` is the source whose SysEx is open there
+-- Follows open ts the tags may stand at an out one after another: `open` is the source whose SysEx is open there
 use Rattle.std.specs.Prelude.{◌≡◌, ℕ, Bool, true, false, ◌==◌, if◌then◌else◌, List, [], ◌∷◌, filter, Option, Some, None}
 use Rattle.mb_message.specs.Signs.{Sign, ShortSign, RtSign, OpenSign, ByteSign, EndSign, AbortSign, suits_sign}
 use Rattle.mb_rig.specs.Merging.Lines.{Line}
@@ -16,7 +16,8 @@ unders_after unders t = with_under unders t.source (under_after (unders t.source
 
 -- the event alone: an early real-time mark changes places and keys, and no data
 pub record LineFitsData (u : Under) (t : Tag) : Type 0 where
-  pub events : (line : Line) → t.line ≡ Some line → (other : Line) → line_at t.source u t.key t.sign ≡ Some other → line.event ≡ other.event
+  pub events : (line : Line) → t.line ≡ Some line → (other : Line) → line_at t.source u t.key t.sign ≡ Some other →
+      line.event ≡ other.event
   pub some : (other : Line) → line_at t.source u t.key t.sign ≡ Some other → (line : Line) × (t.line ≡ Some line)
   pub none : line_at t.source u t.key t.sign ≡ None → t.line ≡ None
 
@@ -71,13 +72,16 @@ opens_sign before (ByteSign b) = before
 -- Of each out: what went there follows, and its owner is the open source that goes there, if there is one.
 pub record OutsKnown (goes : ℕ → ℕ → Bool) (is_open : ℕ → Bool) (ts : List Tag) : Type 0 where
   pub follows : (o : ℕ) → Follows None (filter (λ (t : Tag). goes o t.source) ts)
-  pub closed : (o s : ℕ) → end_owner None (filter (λ (t : Tag). goes o t.source) ts) ≡ None → goes o s ≡ true → is_open s ≡ false
-  pub owner : (o s : ℕ) → end_owner None (filter (λ (t : Tag). goes o t.source) ts) ≡ Some s → (is_open s ≡ true) × (goes o s ≡ true)
+  pub closed : (o s : ℕ) → end_owner None (filter (λ (t : Tag). goes o t.source) ts) ≡ None → goes o s ≡ true →
+      is_open s ≡ false
+  pub owner : (o s : ℕ) → end_owner None (filter (λ (t : Tag). goes o t.source) ts) ≡ Some s →
+      (is_open s ≡ true) × (goes o s ≡ true)
 
 -- a mark may pass now: what the router knows of it
 pub record MayGo (goes : ℕ → ℕ → Bool) (is_open : ℕ → Bool) (t : Tag) : Type 0 where
   -- a message or a start: its source is closed, and no open one shares an out
-  pub outside : suits_sign true t.sign ≡ false → (is_open t.source ≡ false) × ((o s : ℕ) → goes o t.source ≡ true → goes o s ≡ true → is_open s ≡ true → ⊥)
+  pub outside : suits_sign true t.sign ≡ false → (is_open t.source ≡ false) ×
+      ((o s : ℕ) → goes o t.source ≡ true → goes o s ≡ true → is_open s ≡ true → ⊥)
   -- data, an end or a break: its source is open
   pub inside : suits_sign false t.sign ≡ false → is_open t.source ≡ true
 

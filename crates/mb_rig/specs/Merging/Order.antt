@@ -27,7 +27,8 @@ pub record Bounded (greatest : Key) (before : List Passing) : Type 0 where
 abbrev pub LineFits : Tag → Type 0
 LineFits t = (line : Line) → t.line ≡ Some line → (line.source ≡ t.source) × (line.key ≡ t.key)
 
-pub record Order (routes : List (ℕ × ℕ)) (m : Merger) (p : Play) (present : ℕ → Option Key) (stalled : ℕ → Bool) (greatest : Key) : Type 0 where
+pub record Order (routes : List (ℕ × ℕ)) (m : Merger) (p : Play) (present : ℕ → Option Key) (stalled : ℕ → Bool)
+    (greatest : Key) : Type 0 where
   pub plays : Plays m p
   pub turns : InTurn p
   pub late : Lateness (sharing routes) (run_of m present stalled greatest (newest p))

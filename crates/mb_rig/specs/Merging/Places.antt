@@ -19,4 +19,5 @@ pub record Places (p : Play) (next : ℕ → ℕ) : Type 0 where
   pub below : (k : ℕ) (z : Passing) → slice_get (newest p) k ≡ Some z → z.line.place < next z.line.source
   pub held : (x : ℕ) → AreBelow (places_of p x) (next x)
   pub rising : (x : ℕ) → IsRising (places_of p x)
-  pub apart : (x j n k : ℕ) (z : Passing) → slice_get (places_of p x) j ≡ Some n → slice_get (newest p) k ≡ Some z → z.line.source ≡ x → z.line.place ≢ n
+  pub apart : (x j n k : ℕ) (z : Passing) → slice_get (places_of p x) j ≡ Some n → slice_get (newest p) k ≡ Some z →
+      z.line.source ≡ x → z.line.place ≢ n

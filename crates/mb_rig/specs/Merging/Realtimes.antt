@@ -15,16 +15,26 @@ use Rattle.mb_rig.specs.Merging.Tags.{Tag, Play, report_of, is_realtime_sign}
 use Rattle.mb_rig.specs.Merging.Order.{newest, sharing}
 
 abbrev pub stands : Play → (ℕ → Bool) → (ℕ → List Key) → Run
-stands p is_open held = record { is_open = is_open; held = held; present = λ x. None; stalled = λ x. false; greatest = no_key 0; report = newest p }
+stands p is_open held = record {
+  is_open = is_open;
+  held = held;
+  present = λ x. None;
+  stalled = λ x. false;
+  greatest =
+      no_key 0;
+  report = newest p;
+}
 
 abbrev pub places_of : Play → ℕ → List ℕ
 places_of p x = map (λ (t : Tag). t.place) (p.held x)
 
 abbrev pub PlaceFits : Tag → Type 0
-PlaceFits t = (line : Line) → t.line ≡ Some line → (line.place ≡ t.place) × (is_realtime line.event ≡ is_realtime_sign t.sign)
+PlaceFits t = (line : Line) → t.line ≡ Some line → (line.place ≡ t.place) ×
+    (is_realtime line.event ≡ is_realtime_sign t.sign)
 
 abbrev pub IsLatest : Play → Tag → Type 0
-IsLatest p t = (k : ℕ) (z : Passing) → slice_get (newest p) k ≡ Some z → z.line.source ≡ t.source → z.line.place < t.place
+IsLatest p t = (k : ℕ) (z : Passing) → slice_get (newest p) k ≡ Some z → z.line.source ≡ t.source →
+    z.line.place < t.place
 
 pub record RealtimesFit (routes : List (ℕ × ℕ)) (p : Play) (is_open : ℕ → Bool) (held : ℕ → List Key) : Type 0 where
   pub overtaken : Overtaken (sharing routes) (places_of p) (stands p is_open held)

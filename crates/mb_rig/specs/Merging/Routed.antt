@@ -31,4 +31,5 @@ run_of m present stalled greatest report = record {
 }
 
 abbrev pub Shares : (ℕ → ℕ → Bool) → Merger → Type 0
-Shares shares m = (o x : ℕ) → o < length m.links → x < length m.links → shares o x ≡ (not (o == x) && share (link_of m o).outs (link_of m x).outs)
+Shares shares m = (o x : ℕ) → o < length m.links → x < length m.links →
+    shares o x ≡ (not (o == x) && share (link_of m o).outs (link_of m x).outs)

@@ -1,14 +1,16 @@
--- The marks of a run, each with what the report will say of it. A router knows marks alone; what is proved of a run speaks of tags,
+-- The marks of a run, each with what the report will say of it. A router knows marks alone; what is proved of a run
+-- speaks of tags,
 -- and each call of the router is a step of both.
 --
---   Under                    of a source: how many marks it gave, and of its SysEx under way the key of its start and its data
+-- Under of a source: how many marks it gave, and of its SysEx under way the key of its start and its data
 --   Tag                      a mark with its source, its key, and the line that it completes, if it does
 --   tags_from, tags_of       the marks of a source's reading as tags
---   Play                     what was taken, what is held of each source, what was just offered, and what has passed, each with
+-- Play what was taken, what is held of each source, what was just offered, and what has passed, each with
 --                            the moment of its passing
 --   takes, passes            a tag is taken; the tag just offered, or the first held one of a source, passes
 --   Plays m p                the router holds, and is offered, the marks of the tags
-use Rattle.std.specs.Prelude.{◌≡◌, ◌≤◌, ℕ, ◌+◌, Bool, true, false, not, ◌&&◌, ◌==◌, if◌then◌else◌, List, [], ◌∷◌, ◌++◌, map, filter, flat_map, drop, Option, Some, None}
+use Rattle.std.specs.Prelude.{◌≡◌, ◌≤◌, ℕ, ◌+◌, Bool, true, false, not, ◌&&◌, ◌==◌, if◌then◌else◌, List, [], ◌∷◌, ◌++◌}
+use Rattle.std.specs.Prelude.{map, filter, flat_map, drop, Option, Some, None}
 use Rattle.mb_message.specs.Signs.{Sign, ShortSign, RtSign, OpenSign, ByteSign, EndSign, AbortSign, sign_of}
 use Rattle.mb_stream.specs.Denotation.{Message, Syx, Broken}
 use Rattle.mb_message.specs.Bytes.{is_data}
@@ -35,7 +37,14 @@ under_after u key EndSign = record { place = u.place + 1; begin = u.begin; ds = 
 under_after u key AbortSign = record { place = u.place + 1; begin = u.begin; ds = [] }
 
 abbrev pub line_with : (source : ℕ) → Under → (begin key : Key) → Event → Option Line
-line_with source u begin key event = Some (record { source = source; place = u.place; event = event; key = key; begin = begin })
+line_with source u begin key event = Some (record {
+  source = source;
+  place = u.place;
+  event = event;
+  key = key;
+  begin =
+      begin;
+})
 
 abbrev pub line_at : (source : ℕ) → Under → Key → Sign → Option Line
 line_at source u key OpenSign = None
@@ -129,7 +138,11 @@ offered_goes p t moment = record p { offered = None; passed = p.passed ++ record
 
 -- the first held one of a source
 abbrev pub head_goes : Play → Tag → (moment : ℕ) → Play
-head_goes p t moment = record p { held = with_held p.held t.source (drop 1 (p.held t.source)); passed = p.passed ++ record { tag = t; moment = moment } ∷ [] }
+head_goes p t moment = record p {
+  held = with_held p.held t.source (drop 1 (p.held t.source));
+  passed = p.passed ++
+      record { tag = t; moment = moment } ∷ [];
+}
 
 abbrev pub begins_play : Play
 begins_play = record { taken = []; held = λ source. []; offered = None; passed = [] }
@@ -146,7 +159,8 @@ AreHeld source (h ∷ hs) [] = ⊥
 
 abbrev pub IsOffered : Option Passed → Option Tag → Type 0
 IsOffered None None = Unit {0}
-IsOffered (Some p) (Some t) = (p.source ≡ t.source) × (p.arrival ≡ t.key.moment) × (sign_of p.mark ≡ t.sign) × (t.key.link ≡ t.source)
+IsOffered (Some p) (Some t) = (p.source ≡ t.source) × (p.arrival ≡ t.key.moment) × (sign_of p.mark ≡ t.sign) ×
+    (t.key.link ≡ t.source)
 IsOffered None (Some t) = ⊥
 IsOffered (Some p) None = ⊥
 
@@ -166,8 +180,10 @@ tags_passed p = map (λ (x : PassedTag). x.tag) p.passed
 
 -- none twice, none lost, each source's order
 pub record InTurn (p : Play) : Type 0 where
-  pub turns : (source : ℕ) → filter (tag_in_turn source) p.taken ≡ filter (tag_in_turn source) (tags_passed p) ++ (filter (tag_in_turn source) (one p.offered) ++ p.held source)
-  pub realtimes : (source : ℕ) → filter (tag_at_once source) p.taken ≡ filter (tag_at_once source) (tags_passed p) ++ filter (tag_at_once source) (one p.offered)
+  pub turns : (source : ℕ) → filter (tag_in_turn source) p.taken ≡ filter (tag_in_turn source) (tags_passed p) ++
+      (filter (tag_in_turn source) (one p.offered) ++ p.held source)
+  pub realtimes : (source : ℕ) → filter (tag_at_once source) p.taken ≡ filter (tag_at_once source) (tags_passed p) ++
+      filter (tag_at_once source) (one p.offered)
 
 -- the lines of the report: those that what has passed completes
 abbrev pub line_of : (moment : ℕ) → Option Line → List Passing

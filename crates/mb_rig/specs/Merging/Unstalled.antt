@@ -13,7 +13,14 @@ use Rattle.mb_rig.specs.Merging.Tags.{Tag, Play, report_of}
 use Rattle.mb_rig.specs.Merging.Order.{Bounded, newest, sharing}
 
 abbrev pub stands_at : Play → (ℕ → Bool) → (ℕ → List Key) → Key → Run
-stands_at p is_open held K = record { is_open = is_open; held = held; present = λ x. None; stalled = λ x. false; greatest = K; report = newest p }
+stands_at p is_open held K = record {
+  is_open = is_open;
+  held = held;
+  present = λ x. None;
+  stalled = λ x. false;
+  greatest = K;
+  report = newest p;
+}
 
 abbrev pub IsOwn : Line → Type 0
 IsOwn line = (line.key.link ≡ line.source) × (line.begin.link ≡ line.source)
@@ -22,7 +29,8 @@ abbrev pub OwnFits : Tag → Type 0
 OwnFits t = (line : Line) → t.line ≡ Some line → IsOwn line
 
 -- `begin_of` is the key of an open source's Open.
-pub record UnstalledOrder (routes : List (ℕ × ℕ)) (p : Play) (is_open : ℕ → Bool) (held : ℕ → List Key) (begin_of : ℕ → Key) (K : Key) : Type 0 where
+pub record UnstalledOrder (routes : List (ℕ × ℕ)) (p : Play) (is_open : ℕ → Bool) (held : ℕ → List Key)
+    (begin_of : ℕ → Key) (K : Key) : Type 0 where
   pub unbroken : Unbroken (sharing routes) begin_of (stands_at p is_open held K)
   pub bounded : Bounded K (newest p)
   pub own : (i : ℕ) (z : Passing) → slice_get (newest p) i ≡ Some z → IsOwn z.line
