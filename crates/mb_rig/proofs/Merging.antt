@@ -27,3 +27,4 @@ pub mod OutsHeard
 pub mod CalmSteps
 pub mod CourseKnows
 mod RunExamples
+pub mod PassesTold

@@ -3,18 +3,19 @@
 //! A run is a router, its links' states and what was played: the marks that were taken, with their keys and lines, and
 //! those that passed, with their moments. `Course` says what is kept true of these between any two events.
 
-ghost use Rattle.std.specs.Prelude.{◌≡◌, ◌<◌, ◌≤◌, true, false, ℕ, List, None, Some, Option, length};
+ghost use Rattle.std.specs.Prelude.{◌≡◌, ◌<◌, ◌≤◌, ◌/◌, ◌++◌, true, false, ℕ, List, None, Some, Option, length};
 ghost use Rattle.mb_message.specs.declared.mark.Mark.{Mark};
 ghost use Rattle.mb_message.specs.Signs.{sign_of, suits_sign};
 ghost use Rattle.mb_stream.specs.Denotation.{denotation};
-ghost use Rattle.mb_stream.specs.Puts.{signs_in};
+ghost use Rattle.mb_stream.specs.Puts.{At, signs_in};
 ghost use Rattle.mb_stream.specs.Standing.{AreValid, is_open, suited};
+ghost use Rattle.mb_ble.specs.Distances.{message_moments};
 ghost use Rattle.mb_merge.specs.declared.router.Passed.{Passed};
 ghost use Rattle.mb_merge.specs.Links.{Merger, link_of};
 ghost use Rattle.mb_merge.specs.Passing.{has_room, next_of, offered_in, passes_now};
 ghost use Rattle.mb_rig.specs.RigText.{Setup};
 ghost use Rattle.mb_rig.specs.Merging.Lines.{Key, Source, arrival_of, no_key};
-ghost use Rattle.mb_rig.specs.Merging.Report.{goes, lines_to};
+ghost use Rattle.mb_rig.specs.Merging.Report.{goes, kind_of_sign, lines_to, moments_to, text_by, text_of};
 ghost use Rattle.mb_rig.specs.Merging.Merged.{meant_by};
 ghost use Rattle.mb_rig.specs.Merging.Orderly.{is_orderly_unstalled};
 ghost use Rattle.mb_rig.specs.Merging.Tags.{Play, RisesFrom, begins_play, report_of, takes};
@@ -23,7 +24,7 @@ ghost use Rattle.mb_rig.specs.Merging.Course.{gives, greater, next_tag, renews, 
 ghost use Rattle.mb_rig.specs.Merging.Calm.{Calm};
 ghost use Rattle.mb_rig.specs.Merging.Passes.{Passes, PassesOn};
 ghost use Rattle.mb_rig.specs.Merging.Ended.{AreGiven, AreGivenFronts, IsMerged, IsMergedFront, MeansSoFar, puts_to};
-ghost use Rattle.mb_rig.specs.Merging.Ended.{turns_in};
+ghost use Rattle.mb_rig.specs.Merging.Ended.{put_where, turns_in};
 
 /// A run's course goes on, event by event: it starts with the links' first keys; a step begins at the least key of the
 /// links that aren't stalled; a mark of a link is taken; a mark passes, or none does and the router is drained; a
@@ -79,7 +80,7 @@ pub fn runs_merge()
 
 /// What passed to an out may stand there, mark after mark, and a mark that passes may stand next at each of its outs.
 /// It means what the report's lines to that out mean, but for a last broken SysEx where one is open there; at the end,
-/// just that.
+/// just that. Its messages have the moments of passing of their lines.
 pub fn runs_are_heard()
     ensures suits { (s : Setup) (m : Merger) (links : Links) (greatest : Key) (play : Play) (out : ℕ) →
         Course s m links greatest play → out < 16 →
@@ -95,6 +96,22 @@ pub fn runs_are_heard()
         Course s m links greatest play → m.draining ≡ false → ((x : ℕ) → links.present x ≡ None) → out < 16 →
         denotation (signs_in (puts_to s.routes out play.passed))
         ≡ meant_by (lines_to s.routes out (report_of play.passed)) }
+    ensures moments { (s : Setup) (m : Merger) (links : Links) (greatest : Key) (play : Play) (out : ℕ) →
+        Course s m links greatest play →
+        message_moments (puts_to s.routes out play.passed) ≡ moments_to s.routes out (report_of play.passed) }
+{}
+
+/// What a mark that passes adds: to each of its outs the mark, at the moment of its passing; to the report a line of
+/// text where it completes something.
+pub fn passing_tells()
+    ensures put { (s : Setup) (m now : Merger) (links : Links) (greatest : Key) (play : Play) (q : Passed) (out : ℕ) →
+        (passes : Passes s m now links greatest play q) → puts_to s.routes out passes.after.passed
+        ≡ put_where (goes s.routes q.source out) (At (arrival_of greatest) (sign_of q.mark))
+        (puts_to s.routes out play.passed) }
+    ensures line { (s : Setup) (m now : Merger) (links : Links) (greatest : Key) (play : Play) (q : Passed) →
+        (passes : Passes s m now links greatest play q) → text_of (report_of passes.after.passed)
+        ≡ text_of (report_of play.passed)
+        ++ text_by (q.arrival / 1000) (arrival_of greatest) q.source (kind_of_sign (sign_of q.mark)) }
 {}
 
 /// Where no link was ever stalled, a late line was held back exactly: it isn't real-time, and a SysEx line of another

@@ -2,12 +2,13 @@
 --
 --   sources_of s tapes       what each link reads, by the bytes of the tapes
 --   puts_to routes out ps    the marks that passed to an out, each at the moment of its passing
+--   put_where goes put ps    a list behind a mark, if it goes there
 --   turns_in signs           the marks that aren't real-time
 --   IsMerged s ss report     the report is merged from the sources, and in order
 --   IsMergedFront s ss r     where a run stopped: fronts of each source's lines, in order
 -- MeansSoFar signs lines what the marks at an out mean: what the lines to it mean, and a last broken SysEx where one
 --                            is open there
-use Rattle.std.specs.Prelude.{◌≡◌, ℕ, ◌+◌, true, not, List, [], ◌∷◌, ◌++◌, map, filter, Option}
+use Rattle.std.specs.Prelude.{◌≡◌, ℕ, ◌+◌, Bool, true, false, not, List, [], ◌∷◌, ◌++◌, map, filter, Option}
 use Rattle.mb_message.specs.Front.{IsFront}
 use Rattle.mb_message.specs.Signs.{Sign}
 use Rattle.mb_stream.specs.Puts.{Put, At}
@@ -33,6 +34,11 @@ put_of x = At x.moment x.tag.sign
 
 abbrev pub puts_to : List (ℕ × ℕ) → (out : ℕ) → List PassedTag → List Put
 puts_to routes out ps = map put_of (filter (λ (x : PassedTag). goes routes x.tag.source out) ps)
+
+-- a list behind a mark that passes, if it goes there
+abbrev pub put_where : Bool → Put → List Put → List Put
+put_where true put puts = puts ++ put ∷ []
+put_where false put puts = puts
 
 -- the marks that aren't real-time
 abbrev pub turns_in : List Sign → List Sign

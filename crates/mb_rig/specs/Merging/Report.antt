@@ -6,11 +6,19 @@
 --   share routes s t         some out has routes from both sources
 --   may_hold routes y x      y is a SysEx line of another source that shares with x's
 --   lines_to routes out r    the lines to an out
+--   text_of report           its text
+--   kind_of_sign m           what a mark completes, if it does
+--   moments_to routes out r  the moments of passing of the lines to an out that aren't broken
 --   each_fits fits report    each line fits behind those before it, the newest first
-use Rattle.std.specs.Prelude.{ℕ, Bool, true, not, ◌&&◌, ◌==◌, List, [], ◌∷◌, map, filter}
+use Rattle.std.specs.Prelude.{ℕ, Bool, true, false, not, ◌&&◌, ◌==◌, List, [], ◌∷◌, map, flat_map, filter, Option, Some, None}
 use Rattle.std.specs.List.{list_any, range_with_len}
 use Rattle.mb_merge.specs.Opening.{stands_in}
-use Rattle.mb_rig.specs.Merging.Lines.{Line, is_sysex}
+use Rattle.mb_message.specs.Signs.{Sign, ShortSign, RtSign, OpenSign, ByteSign, EndSign, AbortSign}
+use Rattle.mb_stream.specs.Denotation.{Meant, Message, Syx, Broken}
+use Rattle.mb_print.specs.Lines.{report_text}
+use Rattle.mb_print.specs.declared.lines.Kind.{Kind}
+use Rattle.mb_print.specs.declared.lines.Kind.TheVariants as kind
+use Rattle.mb_rig.specs.Merging.Lines.{Ends, Event, Line, Realtime, arrival_of, is_sysex}
 
 pub record Passing : Type 0 where
   pub line : Line
@@ -42,3 +50,44 @@ fits_behind fits before (p ∷ ps) = fits p before && fits_behind fits (p ∷ be
 
 abbrev pub each_fits : (Passing → List Passing → Bool) → List Passing → Bool
 each_fits fits report = fits_behind fits [] report
+
+-- The text of the report: a line of text for each.
+abbrev pub kind_of_item : Meant → Kind
+kind_of_item (Message s a b) = kind.M
+kind_of_item (Syx bytes) = kind.S
+kind_of_item (Broken bytes) = kind.B
+
+abbrev pub kind_of_event : Event → Kind
+kind_of_event (Ends item) = kind_of_item item
+kind_of_event (Realtime b) = kind.R
+
+abbrev pub line_text : Passing → List ℕ
+line_text p = report_text (arrival_of p.line.key) p.moment p.line.source (kind_of_event p.line.event)
+
+abbrev pub text_of : List Passing → List ℕ
+text_of report = flat_map line_text report
+
+-- and of a mark, where it completes something
+abbrev pub kind_of_sign : Sign → Option Kind
+kind_of_sign (ShortSign s a b) = Some kind.M
+kind_of_sign (RtSign b) = Some kind.R
+kind_of_sign OpenSign = None
+kind_of_sign (ByteSign b) = None
+kind_of_sign EndSign = Some kind.S
+kind_of_sign AbortSign = Some kind.B
+
+abbrev pub text_by : (arrival moment source : ℕ) → Option Kind → List ℕ
+text_by arrival moment source None = []
+text_by arrival moment source (Some k) = report_text arrival moment source k
+
+abbrev pub is_broken : Event → Bool
+is_broken (Ends (Message s a b)) = false
+is_broken (Ends (Syx bytes)) = false
+is_broken (Ends (Broken bytes)) = true
+is_broken (Realtime b) = false
+
+-- The moments of passing of the lines to an out, broken ones left out.
+abbrev pub moments_to : List (ℕ × ℕ) → ℕ → List Passing → List ℕ
+moments_to routes out report =
+    map (λ (p : Passing). p.moment) (filter (λ (p : Passing). not (is_broken p.line.event))
+    (filter (λ (p : Passing). goes routes p.line.source out) report))

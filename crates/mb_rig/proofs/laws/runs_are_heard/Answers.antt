@@ -1,5 +1,6 @@
 use Rattle.mb_rig.proofs.Merging.CourseKnows.{passes-suits}
 use Rattle.mb_rig.proofs.Merging.OutsHeard.{course-heard, course-means, course-suits}
+use Rattle.mb_rig.proofs.Merging.PassesTold.{course-moments}
 use Rattle.mb_rig.proofs.laws.runs_are_heard.Goals as goal
 
 pub returns-clause-suits : goal.returns-clause-suits
@@ -13,3 +14,6 @@ returns-clause-heard c = course-heard
 
 pub returns-clause-means : goal.returns-clause-means
 returns-clause-means c = course-means
+
+pub returns-clause-moments : goal.returns-clause-moments
+returns-clause-moments c = course-moments
