@@ -3,6 +3,7 @@ pub mod Report
 pub mod Merged
 pub mod Orderly
 pub mod Tags
+pub mod Playing
 pub mod Run
 pub mod Routed
 pub mod Order

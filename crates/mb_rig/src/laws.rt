@@ -18,7 +18,7 @@ ghost use Rattle.mb_rig.specs.Merging.Lines.{Key, Source, arrival_of, no_key};
 ghost use Rattle.mb_rig.specs.Merging.Report.{goes, kind_of_sign, lines_to, moments_to, text_by, text_of};
 ghost use Rattle.mb_rig.specs.Merging.Merged.{meant_by};
 ghost use Rattle.mb_rig.specs.Merging.Orderly.{is_orderly_unstalled};
-ghost use Rattle.mb_rig.specs.Merging.Tags.{Play, RisesFrom, begins_play, report_of, takes};
+ghost use Rattle.mb_rig.specs.Merging.Playing.{Play, RisesFrom, begins_play, report_of, takes};
 ghost use Rattle.mb_rig.specs.Merging.Course.{AreOfLinks, Course, IsLeastKey, IsNextKey, Links, MayOffer, first_links};
 ghost use Rattle.mb_rig.specs.Merging.Course.{gives, greater, next_tag, renews, stalls, start_of};
 ghost use Rattle.mb_rig.specs.Merging.Calm.{Calm};

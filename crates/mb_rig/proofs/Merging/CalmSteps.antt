@@ -22,9 +22,11 @@ use Rattle.mb_rig.specs.RigText.{Setup}
 use Rattle.mb_rig.specs.Merging.Lines.{Key, Line, arrival_of, is_below, is_sysex, key_at, no_key}
 use Rattle.mb_rig.specs.Merging.Run.{AtMost}
 use Rattle.mb_rig.specs.Merging.Routed.{key_of, open_of, keys_of}
-use Rattle.mb_rig.specs.Merging.Tags.{Tag, PassedTag, Play, IsTag, begin_at, begin_behind, begin_of, begin_then}
-use Rattle.mb_rig.specs.Merging.Tags.{begins_play, head_goes, is_realtime_sign, offered_goes, tag_in_turn}
-use Rattle.mb_rig.specs.Merging.Tags.{tags_passed, takes}
+use Rattle.mb_rig.specs.Merging.Tags.{Tag, IsTag}
+use Rattle.mb_rig.specs.Merging.Playing.{PassedTag, Play, begin_at, begin_behind, begin_of, begin_then}
+use Rattle.mb_rig.specs.Merging.Tags.{is_realtime_sign}
+use Rattle.mb_rig.specs.Merging.Playing.{begins_play, head_goes, offered_goes, tag_in_turn}
+use Rattle.mb_rig.specs.Merging.Playing.{tags_passed, takes}
 use Rattle.mb_rig.specs.Merging.Order.{sharing}
 use Rattle.mb_rig.specs.Merging.Heard.{opens_sign}
 use Rattle.mb_rig.specs.Merging.Unstalled.{OwnFits, UnstalledOrder}
@@ -390,7 +392,7 @@ calm-starts s present = record {
       moments = λ i z e. absurd (none≢some z e);
     };
     own = λ i z e. absurd (none≢some z e);
-    small = refl;
+    exact = refl;
   };
 }
   where

@@ -10,7 +10,8 @@ use Rattle.mb_merge.proofs.LinkLemmas.{is_owned_below-who}
 use Rattle.mb_rig.specs.RigText.{Setup}
 use Rattle.mb_rig.specs.Merging.Lines.{Key, Source, marks_of}
 use Rattle.mb_rig.specs.Merging.Merged.{AreOfSources, AreFrontsOfSources, IsOfSource}
-use Rattle.mb_rig.specs.Merging.Tags.{Tag, Play, AreTags, tags_passed, report_of}
+use Rattle.mb_rig.specs.Merging.Tags.{Tag, AreTags}
+use Rattle.mb_rig.specs.Merging.Playing.{Play, tags_passed, report_of}
 use Rattle.mb_rig.specs.Merging.Course.{Links, Course}
 use Rattle.mb_rig.specs.Merging.Ended.{AreGiven, AreGivenFronts, IsMerged, IsMergedFront}
 use Rattle.mb_rig.proofs.Merging.Lateness.{true≢false, none≢some}

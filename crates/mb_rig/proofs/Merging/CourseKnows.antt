@@ -18,8 +18,10 @@ use Rattle.mb_merge.proofs.Fits.{refused}
 use Rattle.mb_rig.specs.RigText.{Setup}
 use Rattle.mb_rig.specs.Merging.Lines.{Key, arrival_of, key_at, keyed_marks}
 use Rattle.mb_rig.specs.Merging.Report.{goes}
-use Rattle.mb_rig.specs.Merging.Tags.{AreHeld, PassedTag, Play, Tag, Under, is_realtime_sign, tag_at, tag_in_turn}
-use Rattle.mb_rig.specs.Merging.Tags.{tags_from, tags_passed, nothing_under, under_after}
+use Rattle.mb_rig.specs.Merging.Tags.{Tag, Under, is_realtime_sign, tag_at}
+use Rattle.mb_rig.specs.Merging.Playing.{AreHeld, PassedTag, Play, tag_in_turn}
+use Rattle.mb_rig.specs.Merging.Tags.{tags_from, nothing_under, under_after}
+use Rattle.mb_rig.specs.Merging.Playing.{tags_passed}
 use Rattle.mb_rig.specs.Merging.Course.{Course, Links}
 use Rattle.mb_rig.specs.Merging.Ended.{put_of, puts_to, turns_in}
 use Rattle.mb_rig.specs.Merging.Passes.{Passes}

@@ -15,7 +15,8 @@ use Rattle.mb_merge.specs.Passing.{has_room, is_realtime_mark, may_pass, opens, 
 use Rattle.mb_merge.specs.Calls.{IsSettled, may_offer}
 use Rattle.mb_merge.proofs.Flows.{Suit}
 use Rattle.mb_merge.proofs.Fits.{Fits, waits-why, held_marks, offered_turn}
-use Rattle.mb_rig.specs.Merging.Tags.{Tag, AreHeld, IsOffered, is_realtime_sign, is_sound}
+use Rattle.mb_rig.specs.Merging.Tags.{Tag, is_realtime_sign, is_sound}
+use Rattle.mb_rig.specs.Merging.Playing.{AreHeld, IsOffered}
 use Rattle.mb_rig.specs.Merging.Heard.{opens_sign}
 use Rattle.mb_rig.proofs.Merging.Lateness.{true≢false, none≢some}
 

@@ -14,7 +14,8 @@ use Rattle.mb_merge.proofs.LeastLemmas.{least-IsLeast}
 use Rattle.mb_merge.proofs.Histories.{head_list, ready-may}
 use Rattle.mb_rig.specs.RigText.{Setup}
 use Rattle.mb_rig.specs.Merging.Lines.{Key, arrival_of}
-use Rattle.mb_rig.specs.Merging.Tags.{Tag, Play, AreTags, IsHeldMark, IsOffered, offered_goes, head_goes}
+use Rattle.mb_rig.specs.Merging.Tags.{Tag, AreTags}
+use Rattle.mb_rig.specs.Merging.Playing.{Play, IsHeldMark, IsOffered, offered_goes, head_goes}
 use Rattle.mb_rig.specs.Merging.Course.{Links, Course, IsReached, at_link, freed, start_of}
 use Rattle.mb_rig.specs.Merging.Calm.{Calm}
 use Rattle.mb_rig.specs.Merging.Passes.{Passes, PassesOn}

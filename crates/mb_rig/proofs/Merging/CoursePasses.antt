@@ -19,8 +19,10 @@ use Rattle.mb_rig.specs.RigText.{Setup}
 use Rattle.mb_rig.specs.Merging.Lines.{Key, Line, arrival_of, is_sysex}
 use Rattle.mb_rig.specs.Merging.Run.{AtMost}
 use Rattle.mb_rig.specs.Merging.Routed.{key_of, open_of, keys_of}
-use Rattle.mb_rig.specs.Merging.Tags.{Tag, Play, PassedTag, IsTag, AreTags, is_realtime_sign, offered_goes, head_goes}
-use Rattle.mb_rig.specs.Merging.Tags.{tags_passed, under_of, with_held}
+use Rattle.mb_rig.specs.Merging.Tags.{Tag, IsTag, AreTags, is_realtime_sign}
+use Rattle.mb_rig.specs.Merging.Playing.{Play, PassedTag, offered_goes, head_goes}
+use Rattle.mb_rig.specs.Merging.Tags.{under_of}
+use Rattle.mb_rig.specs.Merging.Playing.{tags_passed, with_held}
 use Rattle.mb_rig.specs.Merging.Order.{sharing}
 use Rattle.mb_rig.specs.Merging.Realtimes.{RealtimesFit}
 use Rattle.mb_rig.specs.Merging.Heard.{MayGo, OutsKnown, open_after, opens_sign}

@@ -17,7 +17,7 @@ use Rattle.mb_rig.specs.RigText.{Setup}
 use Rattle.mb_rig.specs.Merging.Lines.{Key, arrival_of, is_below, no_key}
 use Rattle.mb_rig.specs.Merging.Run.{AtMost, IsLate}
 use Rattle.mb_rig.specs.Merging.Routed.{key_of, open_of, run_of}
-use Rattle.mb_rig.specs.Merging.Tags.{AreHeld, Play, begins_play}
+use Rattle.mb_rig.specs.Merging.Playing.{AreHeld, Play, begins_play}
 use Rattle.mb_rig.specs.Merging.Course.{Links, Course, IsNextKey, IsLeastKey, at_link, greater, renews, stalls}
 use Rattle.mb_rig.specs.Merging.Course.{AreOfLinks, AreSorted, first_links, goes_out, start_of}
 use Rattle.mb_rig.proofs.Merging.Lateness.{true≢false, none≢some, some_same, same_or_not}

@@ -22,9 +22,12 @@ use Rattle.mb_rig.specs.Merging.Lines.{Key, Line, is_sysex, key_at, no_key}
 use Rattle.mb_rig.specs.Merging.Run.{Drained}
 use Rattle.mb_rig.specs.Merging.Unbroken.{HasOwner}
 use Rattle.mb_rig.specs.Merging.Routed.{key_of, open_of, keys_of, run_of}
-use Rattle.mb_rig.specs.Merging.Tags.{begin_behind, line_at, tag_in_turn}
-use Rattle.mb_rig.specs.Merging.Tags.{Tag, Play, AreTags, is_realtime_sign, is_tag_of, tags_of, tags_passed, takes}
-use Rattle.mb_rig.specs.Merging.Tags.{under_of, with_held}
+use Rattle.mb_rig.specs.Merging.Tags.{line_at}
+use Rattle.mb_rig.specs.Merging.Playing.{begin_behind, tag_in_turn}
+use Rattle.mb_rig.specs.Merging.Tags.{Tag, AreTags, is_realtime_sign, is_tag_of, tags_of}
+use Rattle.mb_rig.specs.Merging.Playing.{Play, tags_passed, takes}
+use Rattle.mb_rig.specs.Merging.Tags.{under_of}
+use Rattle.mb_rig.specs.Merging.Playing.{with_held}
 use Rattle.mb_rig.specs.Merging.Order.{newest, sharing}
 use Rattle.mb_rig.specs.Merging.Realtimes.{stands}
 use Rattle.mb_rig.specs.Merging.Heard.{MayGo, OutsKnown, opens_sign}

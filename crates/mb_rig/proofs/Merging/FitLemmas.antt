@@ -6,14 +6,15 @@ use Rattle.std.proofs.lemmas.Bool.Decides.{nat_tests}
 use Rattle.mb_message.specs.Signs.{Sign, ShortSign, RtSign, OpenSign, ByteSign, EndSign, AbortSign}
 use Rattle.mb_stream.specs.Denotation.{Syx, Broken}
 use Rattle.mb_rig.specs.Merging.Lines.{Key, Line, Ends}
-use Rattle.mb_rig.specs.Merging.Tags.{Tag, Under, AreTags, tag_at, tags_from, line_at, under_after, tag_in_turn}
+use Rattle.mb_rig.specs.Merging.Tags.{Tag, Under, AreTags, tag_at, tags_from, line_at, under_after}
+use Rattle.mb_rig.specs.Merging.Playing.{tag_in_turn}
 use Rattle.mb_rig.specs.Merging.Tags.{is_realtime_sign}
 use Rattle.mb_rig.specs.Merging.Heard.{with_under, unders_after, LineFitsData, LinesFit}
 use Rattle.mb_rig.proofs.Merging.Lateness.{true≢false, same_or_not, none≢some, some_same}
 use Rattle.mb_rig.proofs.Merging.SourceLines.{filter-cons}
 
 -- what completes depends on the data of the SysEx alone
-same_event : (source : ℕ) (u v : Under) (key other_key : Key) (m : Sign) → u.ds ≡ v.ds → (l k : Line) →
+same_event : (source : ℕ) (u v : Under) (key other_key : Key) (m : Sign) → u.data_bytes ≡ v.data_bytes → (l k : Line) →
     line_at source u key m ≡ Some l → line_at source v other_key m ≡ Some k → l.event ≡ k.event
 same_event source u v key other_key (ShortSign s a b) same l k e f = ap (λ (x : Line). x.event) (sym (some_same e))
     ∙ ap (λ (x : Line). x.event) (some_same f)
@@ -22,9 +23,9 @@ same_event source u v key other_key (RtSign b) same l k e f = ap (λ (x : Line).
 same_event source u v key other_key OpenSign same l k e f = absurd (none≢some l e)
 same_event source u v key other_key (ByteSign b) same l k e f = absurd (none≢some l e)
 same_event source u v key other_key EndSign same l k e f = ap (λ (x : Line). x.event) (sym (some_same e))
-    ∙ (ap (λ ds. Ends (Syx ds)) same ∙ ap (λ (x : Line). x.event) (some_same f))
+    ∙ (ap (λ data_bytes. Ends (Syx data_bytes)) same ∙ ap (λ (x : Line). x.event) (some_same f))
 same_event source u v key other_key AbortSign same l k e f = ap (λ (x : Line). x.event) (sym (some_same e))
-    ∙ (ap (λ ds. Ends (Broken ds)) same ∙ ap (λ (x : Line). x.event) (some_same f))
+    ∙ (ap (λ data_bytes. Ends (Broken data_bytes)) same ∙ ap (λ (x : Line). x.event) (some_same f))
 
 -- and whether something completes, on the mark alone
 line_there : (source : ℕ) (u v : Under) (key other_key : Key) (m : Sign) (l : Line) → line_at source u key m ≡ Some l →
@@ -46,14 +47,15 @@ line_absent source u v key other_key EndSign e = absurd (none≢some _ (sym e))
 line_absent source u v key other_key AbortSign e = absurd (none≢some _ (sym e))
 
 -- a tag of a reading fits wherever the data is the same
-tag-fits : (source : ℕ) (u v : Under) (key : Key) (m : Sign) → u.ds ≡ v.ds → LineFitsData v (tag_at source u key m)
+tag-fits : (source : ℕ) (u v : Under) (key : Key) (m : Sign) → u.data_bytes ≡ v.data_bytes →
+    LineFitsData v (tag_at source u key m)
 tag-fits source u v key m same = record {
   events = λ l e k f. same_event source u v key key m same l k e f;
   some = λ k f. line_there source v u key key m k f;
   none = λ f. line_absent source v u key key m f;
 }
 
-fits-data : (u v : Under) (t : Tag) → u.ds ≡ v.ds → LineFitsData u t → LineFitsData v t
+fits-data : (u v : Under) (t : Tag) → u.data_bytes ≡ v.data_bytes → LineFitsData u t → LineFitsData v t
 fits-data u v t same fits = record {
   events = λ l e k f. let g = line_there t.source v u t.key t.key t.sign k f in fits.events l e g.0 g.1
       ∙ same_event t.source u v t.key t.key t.sign same g.0 k g.1 f;
@@ -66,15 +68,16 @@ abbrev pub FitsTurns : Under → List Tag → Type 0
 FitsTurns u [] = Unit {0}
 FitsTurns u (t ∷ ts) = LineFitsData u t × FitsTurns (under_after u t.key t.sign) ts
 
-same_after : (u v : Under) (key : Key) (m : Sign) → u.ds ≡ v.ds → (under_after u key m).ds ≡ (under_after v key m).ds
+same_after : (u v : Under) (key : Key) (m : Sign) → u.data_bytes ≡ v.data_bytes →
+    (under_after u key m).data_bytes ≡ (under_after v key m).data_bytes
 same_after u v key (ShortSign s a b) same = same
 same_after u v key (RtSign b) same = same
 same_after u v key OpenSign same = refl
-same_after u v key (ByteSign b) same = ap (λ ds. ds ++ b ∷ []) same
+same_after u v key (ByteSign b) same = ap (λ data_bytes. data_bytes ++ b ∷ []) same
 same_after u v key EndSign same = refl
 same_after u v key AbortSign same = refl
 
-turns-data : (u v : Under) (ts : List Tag) → u.ds ≡ v.ds → FitsTurns u ts → FitsTurns v ts
+turns-data : (u v : Under) (ts : List Tag) → u.data_bytes ≡ v.data_bytes → FitsTurns u ts → FitsTurns v ts
 turns-data u v [] same fits = tt
 turns-data u v (t ∷ ts) same fits = (
   fits-data u v t same fits.0,
@@ -87,13 +90,13 @@ turns-front u [] us fits = tt
 turns-front u (t ∷ ts) us fits = (fits.0, turns-front (under_after u t.key t.sign) ts us fits.1)
 
 -- a source's own reading fits
-pub reading-fits : (source : ℕ) (u v : Under) (ms : List (Key × Sign)) → u.ds ≡ v.ds →
+pub reading-fits : (source : ℕ) (u v : Under) (ms : List (Key × Sign)) → u.data_bytes ≡ v.data_bytes →
     FitsTurns v (filter (λ (t : Tag). not (is_realtime_sign t.sign)) (tags_from source u ms))
 reading-fits source u v [] same = tt
 reading-fits source u v (m ∷ ms) same = by_kind (is_realtime_sign m.1) refl
     (λ w e. reading-fits source (under_after u m.0 m.1) w ms e)
   where
-    kept : (s : Sign) (key : Key) → is_realtime_sign s ≡ true → (under_after u key s).ds ≡ u.ds
+    kept : (s : Sign) (key : Key) → is_realtime_sign s ≡ true → (under_after u key s).data_bytes ≡ u.data_bytes
     kept (ShortSign s a b) key e = refl
     kept (RtSign b) key e = refl
     kept OpenSign key e = absurd (true≢false (sym e))
@@ -101,7 +104,8 @@ reading-fits source u v (m ∷ ms) same = by_kind (is_realtime_sign m.1) refl
     kept EndSign key e = absurd (true≢false (sym e))
     kept AbortSign key e = absurd (true≢false (sym e))
 
-    by_kind : (rt : Bool) → is_realtime_sign m.1 ≡ rt → ((w : Under) → (under_after u m.0 m.1).ds ≡ w.ds →
+    by_kind : (rt : Bool) → is_realtime_sign m.1 ≡ rt → ((w : Under) → (under_after u m.0 m.1).data_bytes ≡ w.data_bytes
+        →
         FitsTurns w (filter (λ (t : Tag). not (is_realtime_sign t.sign)) (tags_from source (under_after u m.0 m.1) ms)))
         →
         FitsTurns v (filter (λ (t : Tag). not (is_realtime_sign t.sign))
@@ -150,7 +154,8 @@ lines-fit unders (t ∷ ts) turns rts = (
         other : (a b : ℕ) → a ≢ b → (a == b) ≡ false
         other a b e = grind (arith, nat_tests, e)
 
-    kept : (u : Under) (s : Sign) (key : Key) → is_realtime_sign s ≡ true → u.ds ≡ (under_after u key s).ds
+    kept : (u : Under) (s : Sign) (key : Key) → is_realtime_sign s ≡ true →
+        u.data_bytes ≡ (under_after u key s).data_bytes
     kept u (ShortSign s a b) key e = refl
     kept u (RtSign b) key e = refl
     kept u OpenSign key e = absurd (true≢false (sym e))

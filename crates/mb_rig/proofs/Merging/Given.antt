@@ -8,7 +8,8 @@ use Rattle.mb_stream.specs.Puts.{Put, At, Flush, signs_in}
 use Rattle.mb_rig.specs.Merging.Lines.{Key, Line, key_at, keyed_marks, is_realtime, is_sysex, no_key}
 use Rattle.mb_rig.specs.Merging.Tags.{Tag, Under, IsTag, AreTags, tag_at, tags_from, tags_of, under_after, under_behind}
 use Rattle.mb_rig.specs.Merging.Tags.{under_of, nothing_under, is_realtime_sign, line_at}
-use Rattle.mb_rig.specs.Merging.Tags.{PassedTag, RisesFrom, begin_at, begin_behind, begin_then, is_tag_of, tag_in_turn}
+use Rattle.mb_rig.specs.Merging.Tags.{is_tag_of}
+use Rattle.mb_rig.specs.Merging.Playing.{PassedTag, RisesFrom, begin_at, begin_behind, begin_then, tag_in_turn}
 use Rattle.mb_rig.specs.Merging.Order.{LineFits}
 use Rattle.mb_rig.specs.Merging.Realtimes.{PlaceFits}
 use Rattle.mb_rig.specs.Merging.Course.{at_link}

@@ -61,21 +61,23 @@ abbrev tag : ℕ → ℕ → Key → Sign → Option Line → Tag
 tag source place key m line = record { source = source; place = place; key = key; sign = m; line = line }
 
 -- the data of the open SysEx where another source's, or no data, changed
-data_kept : (unders : ℕ → Under) (source : ℕ) (u : Under) (o : Option ℕ) → u.ds ≡ (unders source).ds →
+data_kept : (unders : ℕ → Under) (source : ℕ) (u : Under) (o : Option ℕ) → u.data_bytes ≡ (unders source).data_bytes →
     open_data (with_under unders source u) o ≡ open_data unders o
 data_kept unders source u None same = refl
 data_kept unders source u (Some x) same = ⊎_elim
-    (λ (e : x ≡ source). ap (λ (ds : List ℕ). Some ds) (ap (λ y. (with_under unders source u y).ds) e
-    ∙ (ap (λ (v : Under). v.ds) (with_under-same unders source u) ∙ (same ∙ ap (λ y. (unders y).ds) (sym e)))))
-    (λ (apart : x ≢ source). ap (λ (v : Under). Some v.ds) (other x apart))
+    (λ (e : x ≡ source). ap (λ (data_bytes : List ℕ). Some data_bytes)
+        (ap (λ y. (with_under unders source u y).data_bytes) e
+    ∙ (ap (λ (v : Under). v.data_bytes) (with_under-same unders source u)
+        ∙ (same ∙ ap (λ y. (unders y).data_bytes) (sym e)))))
+    (λ (apart : x ≢ source). ap (λ (v : Under). Some v.data_bytes) (other x apart))
     (same_or_not x source)
   where
     other : (x : ℕ) → x ≢ source → with_under unders source u x ≡ unders x
     other x apart = grind (arith, nat_tests, apart)
 
 data_now : (unders : ℕ → Under) (source : ℕ) (u : Under) → open_data (with_under unders source u) (Some source) ≡ Some
-    u.ds
-data_now unders source u = ap (λ (v : Under). Some v.ds) (with_under-same unders source u)
+    u.data_bytes
+data_now unders source u = ap (λ (v : Under). Some v.data_bytes) (with_under-same unders source u)
 
 -- one more item, or none, before what follows
 with_item : (item : Meant) (u : Under) (t : Tag) (other : Line) (rest : List Line) (left now : List Meant) →
@@ -122,16 +124,16 @@ item_at unders o source place key OpenSign line ms rest left fits may ih =
 item_at unders o source place key (ByteSign b) line ms rest left fits may ih =
     ap (λ x. items_from (open_data unders x) (ByteSign b ∷ ms)) may
     ∙ no_item (unders source) (tag source place key (ByteSign b) line) rest left
-    (items_from (Some ((unders source).ds ++ b ∷ [])) ms) fits refl
+    (items_from (Some ((unders source).data_bytes ++ b ∷ [])) ms) fits refl
     (ap (λ od. items_from od ms) (sym (data_now unders source (under_after (unders source) key (ByteSign b)))
     ∙ ap (open_data (unders_after unders (tag source place key (ByteSign b) line))) (sym may)) ∙ ih)
 item_at unders o source place key EndSign line ms rest left fits may ih =
     ap (λ x. items_from (open_data unders x) (EndSign ∷ ms)) may
-    ∙ with_item (Syx (unders source).ds) (unders source) (tag source place key EndSign line) _ rest left
+    ∙ with_item (Syx (unders source).data_bytes) (unders source) (tag source place key EndSign line) _ rest left
     (items_from None ms) fits refl refl ih
 item_at unders o source place key AbortSign line ms rest left fits may ih =
     ap (λ x. items_from (open_data unders x) (AbortSign ∷ ms)) may
-    ∙ with_item (Broken (unders source).ds) (unders source) (tag source place key AbortSign line) _ rest left
+    ∙ with_item (Broken (unders source).data_bytes) (unders source) (tag source place key AbortSign line) _ rest left
     (items_from None ms) fits refl refl ih
 
 pub items-heard : (unders : ℕ → Under) (o : Option ℕ) (ts : List Tag) → LinesFit unders ts → Follows o ts →
@@ -178,13 +180,13 @@ timed_at unders o n source place key (ByteSign b) line ms rest fits may ih =
     ih n ∙ ap (realtimes_of n) (sym (no_line (unders source) (tag source place key (ByteSign b) line) rest fits refl))
 timed_at unders o n source place key EndSign line ms rest fits may ih =
     ap (λ x. realtimes_from (is_taken x) n (EndSign ∷ ms)) may
-    ∙ realtimes_with n (unders source) (tag source place key EndSign line) _ rest (Syx (unders source).ds)
+    ∙ realtimes_with n (unders source) (tag source place key EndSign line) _ rest (Syx (unders source).data_bytes)
     (realtimes_from false (suc n) ms) fits refl refl (ih (suc n) ∙ ap (λ k. realtimes_of k rest) (more n))
   where
     more : (n : ℕ) → suc n ≡ n + 1
     more n = omega arith
 timed_at unders o n source place key AbortSign line ms rest fits may ih =
-    realtimes_with n (unders source) (tag source place key AbortSign line) _ rest (Broken (unders source).ds)
+    realtimes_with n (unders source) (tag source place key AbortSign line) _ rest (Broken (unders source).data_bytes)
     (realtimes_from false n ms) fits refl refl (ih n ∙ ap (λ k. realtimes_of k rest) (same n))
   where
     same : (n : ℕ) → n ≡ n + 0

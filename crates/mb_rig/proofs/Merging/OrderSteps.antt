@@ -17,7 +17,8 @@ use Rattle.mb_rig.specs.Merging.Report.{Passing, fits_behind}
 use Rattle.mb_rig.specs.Merging.Orderly.{is_in_order, is_on_time, is_orderly}
 use Rattle.mb_rig.specs.Merging.Run.{AtMost, Stood, Lateness, Drained}
 use Rattle.mb_rig.specs.Merging.Routed.{key_of, run_of}
-use Rattle.mb_rig.specs.Merging.Tags.{Tag, PassedTag, Play, Plays, report_of, line_of, takes, offered_goes, head_goes}
+use Rattle.mb_rig.specs.Merging.Tags.{Tag}
+use Rattle.mb_rig.specs.Merging.Playing.{PassedTag, Play, Plays, report_of, line_of, takes, offered_goes, head_goes}
 use Rattle.mb_rig.specs.Merging.Tags.{is_realtime_sign}
 use Rattle.mb_rig.specs.Merging.Order.{Bounded, LineFits, Order, newest, sharing}
 use Rattle.mb_rig.proofs.Merging.Lateness as late

@@ -17,8 +17,10 @@ use Rattle.mb_rig.specs.RigText.{Setup}
 use Rattle.mb_rig.specs.Merging.Lines.{Key, Line, keyed_marks}
 use Rattle.mb_rig.specs.Merging.Report.{Passing, goes, lines_to}
 use Rattle.mb_rig.specs.Merging.Merged.{items_of, realtimes_of, meant_by}
-use Rattle.mb_rig.specs.Merging.Tags.{Tag, PassedTag, Play, AreTags, is_realtime_sign, is_sound}
-use Rattle.mb_rig.specs.Merging.Tags.{line_of, nothing_under, report_of, tag_in_turn, tags_passed}
+use Rattle.mb_rig.specs.Merging.Tags.{Tag, AreTags, is_realtime_sign, is_sound}
+use Rattle.mb_rig.specs.Merging.Playing.{PassedTag, Play}
+use Rattle.mb_rig.specs.Merging.Tags.{nothing_under}
+use Rattle.mb_rig.specs.Merging.Playing.{line_of, report_of, tag_in_turn, tags_passed}
 use Rattle.mb_rig.specs.Merging.Heard.{Follows, LinesFit, MayFollow, end_owner, end_unders, open_data}
 use Rattle.mb_rig.specs.Merging.Heard.{owner_behind}
 use Rattle.mb_rig.specs.Merging.Course.{AreWithin, Course, Links, goes_out}

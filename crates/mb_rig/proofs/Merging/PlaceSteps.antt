@@ -6,7 +6,8 @@ use Rattle.std.proofs.lemmas.List.{map-append}
 use Rattle.mb_message.specs.Signs.{Sign, ShortSign, RtSign, OpenSign, ByteSign, EndSign, AbortSign}
 use Rattle.mb_rig.specs.Merging.Lines.{Key, Line, is_realtime}
 use Rattle.mb_rig.specs.Merging.Report.{Passing}
-use Rattle.mb_rig.specs.Merging.Tags.{Tag, Under, Play, tag_at, takes, offered_goes, head_goes}
+use Rattle.mb_rig.specs.Merging.Tags.{Tag, Under, tag_at}
+use Rattle.mb_rig.specs.Merging.Playing.{Play, takes, offered_goes, head_goes}
 use Rattle.mb_rig.specs.Merging.Order.{LineFits, newest}
 use Rattle.mb_rig.specs.Merging.Realtimes.{PlaceFits, IsLatest, places_of}
 use Rattle.mb_rig.specs.Merging.Unstalled.{OwnFits}

@@ -14,8 +14,9 @@ use Rattle.mb_merge.specs.Links.{Link, Merger, link_at, link_of}
 use Rattle.mb_merge.specs.Calls.{one}
 use Rattle.mb_merge.specs.Passing.{after_head, after_pass, taken, offered_mark}
 use Rattle.mb_merge.proofs.Flows.{link_at-set_same, link_at-set_other}
-use Rattle.mb_rig.specs.Merging.Tags.{Tag, PassedTag, Play, Plays, InTurn, AreHeld, IsHeldMark, takes, offered_goes}
-use Rattle.mb_rig.specs.Merging.Tags.{head_goes, with_held, begins_play, tag_in_turn, tag_at_once, tags_passed}
+use Rattle.mb_rig.specs.Merging.Tags.{Tag}
+use Rattle.mb_rig.specs.Merging.Playing.{PassedTag, Play, Plays, InTurn, AreHeld, IsHeldMark, takes, offered_goes}
+use Rattle.mb_rig.specs.Merging.Playing.{head_goes, with_held, begins_play, tag_in_turn, tag_at_once, tags_passed}
 use Rattle.mb_rig.specs.Merging.Tags.{is_realtime_sign}
 use Rattle.mb_rig.proofs.Merging.Lateness.{true≢false, same_or_not}
 

@@ -9,7 +9,8 @@ use Rattle.mb_rig.specs.Merging.Report.{Passing, share, may_hold}
 use Rattle.mb_rig.specs.Merging.Merged.{overtakes, realtimes_fit, realtimes_merged}
 use Rattle.mb_rig.specs.Merging.Run.{Run, Stood, Drained}
 use Rattle.mb_rig.specs.Merging.Unbroken.{HasOwner, Overtaken}
-use Rattle.mb_rig.specs.Merging.Tags.{Tag, Play, report_of, line_of, takes, offered_goes, head_goes, is_realtime_sign}
+use Rattle.mb_rig.specs.Merging.Tags.{Tag, is_realtime_sign}
+use Rattle.mb_rig.specs.Merging.Playing.{Play, report_of, line_of, takes, offered_goes, head_goes}
 use Rattle.mb_rig.specs.Merging.Order.{LineFits, newest, sharing}
 use Rattle.mb_rig.specs.Merging.Realtimes.{RealtimesFit, PlaceFits, IsLatest, places_of, stands}
 use Rattle.mb_rig.proofs.Merging.Lateness.{true≢false, none≢some, some_same, same_or_not, true_or_not, with_line}
@@ -236,7 +237,8 @@ realtimes-head routes p t rest moment is_open is_open_then held held_then known 
           is_open_then held_then (λ x. false) (passing_of moment t.line) t.source t.place
           (map (λ (u : Tag). u.place) rest) known.overtaken
           (ap (map (λ (u : Tag). u.place)) first)
-          (ap (map (λ (u : Tag). u.place)) (with_held-same p.held t.source (drop 1 (p.held t.source)) ∙ ap (drop 1) first))
+          (ap (map (λ (u : Tag). u.place)) (with_held-same p.held t.source (drop 1 (p.held t.source))
+              ∙ ap (drop 1) first))
           some
           (λ x other. (
             (others x other).0,

@@ -14,7 +14,8 @@ use Rattle.mb_rig.specs.Merging.Lines.{Key, arrival_of, is_sysex, Line}
 use Rattle.mb_rig.specs.Merging.Report.{Passing}
 use Rattle.mb_rig.specs.Merging.Unbroken.{HasOwner}
 use Rattle.mb_rig.specs.Merging.Routed.{key_of, open_of, keys_of}
-use Rattle.mb_rig.specs.Merging.Tags.{Tag, Play, takes, offered_goes, head_goes, is_realtime_sign}
+use Rattle.mb_rig.specs.Merging.Tags.{Tag, is_realtime_sign}
+use Rattle.mb_rig.specs.Merging.Playing.{Play, takes, offered_goes, head_goes}
 use Rattle.mb_rig.specs.Merging.Order.{LineFits, newest, sharing}
 use Rattle.mb_rig.specs.Merging.Realtimes.{RealtimesFit, PlaceFits, IsLatest, stands}
 use Rattle.mb_rig.specs.Merging.Unstalled.{UnstalledOrder, OwnFits}

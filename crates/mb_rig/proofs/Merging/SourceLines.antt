@@ -13,30 +13,35 @@ use Rattle.mb_rig.specs.Merging.Lines.{Key, Line, Event, Ends, Realtime, is_real
 use Rattle.mb_rig.specs.Merging.Lines.{key_at, no_key}
 use Rattle.mb_rig.specs.Merging.Report.{Passing, is_of, lines_in}
 use Rattle.mb_rig.specs.Merging.Merged.{IsOfSource, IsFrontOfSource, in_turn, is_at_once}
-use Rattle.mb_rig.specs.Merging.Tags.{Tag, PassedTag, Play, InTurn, Under, tags_from, tags_of, nothing_under, tag_at}
-use Rattle.mb_rig.specs.Merging.Tags.{line_at, under_after, under_behind, tag_in_turn, tag_at_once, tags_passed}
-use Rattle.mb_rig.specs.Merging.Tags.{is_realtime_sign, line_of, report_of}
+use Rattle.mb_rig.specs.Merging.Tags.{Tag, Under, tags_from, tags_of, nothing_under, tag_at}
+use Rattle.mb_rig.specs.Merging.Playing.{PassedTag, Play, InTurn}
+use Rattle.mb_rig.specs.Merging.Tags.{line_at, under_after, under_behind}
+use Rattle.mb_rig.specs.Merging.Playing.{tag_in_turn, tag_at_once, tags_passed}
+use Rattle.mb_rig.specs.Merging.Tags.{is_realtime_sign}
+use Rattle.mb_rig.specs.Merging.Playing.{line_of, report_of}
 use Rattle.mb_rig.proofs.Merging.HeardLemmas.{lines_heard}
 use Rattle.mb_rig.proofs.Merging.Lateness.{none≢some, some_same}
 
 -- a source's lines are those of its tags
-lines-tags : (source place : ℕ) (begin : Key) (ds : List ℕ) (ms : List (Key × Sign)) →
-    lines_from source place begin ds ms ≡ lines_heard (tags_from source
-    (record { place = place; begin = begin; ds = ds }) ms)
-lines-tags source place begin ds [] = refl
-lines-tags source place begin ds ((key, OpenSign) ∷ ms) = lines-tags source (place + 1) key [] ms
-lines-tags source place begin ds ((key, ByteSign b) ∷ ms) = lines-tags source (place + 1) begin (ds ++ b ∷ []) ms
-lines-tags source place begin ds ((key, ShortSign s a b) ∷ ms) =
+lines-tags : (source place : ℕ) (begin : Key) (data_bytes : List ℕ) (ms : List (Key × Sign)) →
+    lines_from source place begin data_bytes ms ≡ lines_heard (tags_from source
+    (record { place = place; begin = begin; data_bytes = data_bytes }) ms)
+lines-tags source place begin data_bytes [] = refl
+lines-tags source place begin data_bytes ((key, OpenSign) ∷ ms) = lines-tags source (place + 1) key [] ms
+lines-tags source place begin data_bytes ((key, ByteSign b) ∷ ms) = lines-tags source (place + 1) begin
+    (data_bytes ++ b ∷ []) ms
+lines-tags source place begin data_bytes ((key, ShortSign s a b) ∷ ms) =
     let l : Line = record { source = source; place = place; event = Ends (Message s a b); key = key; begin = key } in
-    ap (λ xs. l ∷ xs) (lines-tags source (place + 1) begin ds ms)
-lines-tags source place begin ds ((key, RtSign b) ∷ ms) =
+    ap (λ xs. l ∷ xs) (lines-tags source (place + 1) begin data_bytes ms)
+lines-tags source place begin data_bytes ((key, RtSign b) ∷ ms) =
     let l : Line = record { source = source; place = place; event = Realtime b; key = key; begin = key } in
-    ap (λ xs. l ∷ xs) (lines-tags source (place + 1) begin ds ms)
-lines-tags source place begin ds ((key, EndSign) ∷ ms) =
-    let l : Line = record { source = source; place = place; event = Ends (Syx ds); key = key; begin = begin } in
+    ap (λ xs. l ∷ xs) (lines-tags source (place + 1) begin data_bytes ms)
+lines-tags source place begin data_bytes ((key, EndSign) ∷ ms) =
+    let l : Line = record { source = source; place = place; event = Ends (Syx data_bytes); key = key; begin = begin } in
     ap (λ xs. l ∷ xs) (lines-tags source (place + 1) begin [] ms)
-lines-tags source place begin ds ((key, AbortSign) ∷ ms) =
-    let l : Line = record { source = source; place = place; event = Ends (Broken ds); key = key; begin = begin } in
+lines-tags source place begin data_bytes ((key, AbortSign) ∷ ms) =
+    let l : Line = record { source = source; place = place; event = Ends (Broken data_bytes); key = key; begin = begin }
+        in
     ap (λ xs. l ∷ xs) (lines-tags source (place + 1) begin [] ms)
 
 pub source-lines : (source : ℕ) (puts : List Put) → lines_of source puts ≡ lines_heard (tags_of source puts)
@@ -145,8 +150,9 @@ filter-two x kind (t ∷ ts) = by_tests (t.source == x) refl (kind t.sign) refl 
 
 -- the lines of one kind among a source's tags
 kind-heard : (source : ℕ) (of_line : Event → Bool) (of_sign : Sign → Bool) (u : Under) (ms : List (Key × Sign)) →
-    ((place : ℕ) (begin : Key) (ds : List ℕ) (m : Sign) (key : Key) (l : Line) →
-    line_at source (record { place = place; begin = begin; ds = ds }) key m ≡ Some l → of_line l.event ≡ of_sign m)
+    ((place : ℕ) (begin : Key) (data_bytes : List ℕ) (m : Sign) (key : Key) (l : Line) →
+    line_at source (record { place = place; begin = begin; data_bytes = data_bytes }) key m ≡ Some l →
+        of_line l.event ≡ of_sign m)
     →
     filter (λ (l : Line). of_line l.event) (lines_heard (tags_from source u ms)) ≡ lines_heard
     (filter (λ (t : Tag). of_sign t.sign) (tags_from source u ms))
@@ -184,7 +190,7 @@ kind-heard source of_line of_sign u (m ∷ ms) same =
         ap (λ (o : Option Line). filter (λ (l : Line). of_line l.event)
         ((elim o [ None ↦ [] | Some l ↦ l ∷ [] ]) ++ lines_heard (tags_from source (under_after u m.0 m.1) ms))) e
         ∙ (filter-cons (λ (l : Line). of_line l.event) l (lines_heard (tags_from source (under_after u m.0 m.1) ms))
-        true (same u.place u.begin u.ds m.1 m.0 l e ∙ f)
+        true (same u.place u.begin u.data_bytes m.1 m.0 l e ∙ f)
         ∙ (ap (λ ls. l ∷ ls) rest ∙ sym (ap lines_heard (filter-cons (λ (t : Tag). of_sign t.sign)
         (tag_at source u m.0 m.1) (tags_from source (under_after u m.0 m.1) ms) true f)
         ∙ ap (λ (o : Option Line). (elim o [ None ↦ [] | Some l ↦ l ∷ [] ]) ++ lines_heard
@@ -193,7 +199,7 @@ kind-heard source of_line of_sign u (m ∷ ms) same =
         ap (λ (o : Option Line). filter (λ (l : Line). of_line l.event)
         ((elim o [ None ↦ [] | Some l ↦ l ∷ [] ]) ++ lines_heard (tags_from source (under_after u m.0 m.1) ms))) e
         ∙ (filter-cons (λ (l : Line). of_line l.event) l (lines_heard (tags_from source (under_after u m.0 m.1) ms))
-        false (same u.place u.begin u.ds m.1 m.0 l e ∙ f)
+        false (same u.place u.begin u.data_bytes m.1 m.0 l e ∙ f)
         ∙ (rest ∙ sym (ap lines_heard (filter-cons (λ (t : Tag). of_sign t.sign) (tag_at source u m.0 m.1)
         (tags_from source (under_after u m.0 m.1) ms) false f))))
 
@@ -218,7 +224,8 @@ turns-heard : (p : Play) (x : ℕ) (puts : List Put) → InTurn p → p.offered 
 turns-heard p x puts turns idle all own =
     ap (filter in_turn) (source-lines x puts)
     ∙ (kind-heard x (λ e. not (is_realtime e)) (λ m. not (is_realtime_sign m)) (nothing_under x) (keyed_marks x puts)
-    (λ place begin ds m key l e. ap not (line_kind x (record { place = place; begin = begin; ds = ds }) m key l e))
+    (λ place begin data_bytes m key l e. ap not (line_kind x
+        (record { place = place; begin = begin; data_bytes = data_bytes }) m key l e))
     ∙ (ap lines_heard (ap (filter (λ (t : Tag). not (is_realtime_sign t.sign))) (sym all)
     ∙ (sym (filter-two x (λ m. not (is_realtime_sign m)) p.taken) ∙ (turns.turns x
     ∙ ap (λ (o : Option Tag). filter (tag_in_turn x) (tags_passed p) ++ (filter (tag_in_turn x) (one o) ++ p.held x))
@@ -233,7 +240,8 @@ once-heard : (p : Play) (x : ℕ) (puts : List Put) → InTurn p → p.offered �
 once-heard p x puts turns idle all own =
     ap (filter is_at_once) (source-lines x puts)
     ∙ (kind-heard x is_realtime is_realtime_sign (nothing_under x) (keyed_marks x puts)
-    (λ place begin ds m key l e. line_kind x (record { place = place; begin = begin; ds = ds }) m key l e)
+    (λ place begin data_bytes m key l e. line_kind x (record { place = place; begin = begin; data_bytes = data_bytes })
+        m key l e)
     ∙ (ap lines_heard (ap (filter (λ (t : Tag). is_realtime_sign t.sign)) (sym all)
     ∙ (sym (filter-two x is_realtime_sign p.taken) ∙ (turns.realtimes x
     ∙ (ap (λ (o : Option Tag). filter (tag_at_once x) (tags_passed p) ++ filter (tag_at_once x) (one o)) idle

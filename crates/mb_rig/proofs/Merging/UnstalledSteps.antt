@@ -8,7 +8,8 @@ use Rattle.mb_rig.specs.Merging.Report.{Passing}
 use Rattle.mb_rig.specs.Merging.Orderly.{is_held_back, is_orderly_unstalled}
 use Rattle.mb_rig.specs.Merging.Run.{AtMost, Stood, Drained}
 use Rattle.mb_rig.specs.Merging.Unbroken.{IsHeld, Unbroken}
-use Rattle.mb_rig.specs.Merging.Tags.{Tag, Play, report_of, line_of, takes, offered_goes, head_goes, is_realtime_sign}
+use Rattle.mb_rig.specs.Merging.Tags.{Tag, is_realtime_sign}
+use Rattle.mb_rig.specs.Merging.Playing.{Play, report_of, line_of, takes, offered_goes, head_goes}
 use Rattle.mb_rig.specs.Merging.Order.{Bounded, LineFits, newest, sharing}
 use Rattle.mb_rig.specs.Merging.Realtimes.{PlaceFits}
 use Rattle.mb_rig.specs.Merging.Unstalled.{UnstalledOrder, IsOwn, OwnFits, stands_at}
@@ -66,7 +67,7 @@ unstalled-begins routes p is_open held present stalled begin_of K k known draine
             (arith, at, more);
       };
       own = known.own;
-      small = known.small;
+      exact = known.exact;
     }
 
 -- the offered tag is to pass: nothing else changes yet
@@ -77,7 +78,7 @@ unstalled-accepts routes p t is_open held begin_of K known = record {
   unbroken = record { held = known.unbroken.held; begun = known.unbroken.begun; within = known.unbroken.within };
   bounded = known.bounded;
   own = known.own;
-  small = known.small;
+  exact = known.exact;
 }
 
 -- it is held, since an owner is there
@@ -95,7 +96,7 @@ unstalled-takes routes p t is_open held held_then begin_of K known closed owner 
       bounded = known.bounded;
       own
           = known.own;
-      small = known.small;
+      exact = known.exact;
     }
 
 -- the tag just offered passes; its key is the greatest
@@ -133,7 +134,7 @@ unstalled-offered routes p t is_open is_open_then held begin_of begin_then K kno
           (λ l e. subst (λ k. AtMost k K) (sym ((fits l e).1 ∙ at)) (self K)));
       own = λ i z here. own-line (arrival_of K) t.line (newest p) known.own own i z
           (ap (λ ps. slice_get ps i) (sym (newest-push p t (arrival_of K))) ∙ here);
-      small = ap (is_orderly_unstalled routes) (report-push p.passed t (arrival_of K))
+      exact = ap (is_orderly_unstalled routes) (report-push p.passed t (arrival_of K))
           ∙ unstalled-line routes (arrival_of K) t.line (report_of p.passed) known.small
           (λ l e. at_greatest routes K (newest p) l known.bounded ((fits l e).1 ∙ at));
     }
@@ -172,7 +173,7 @@ unstalled-head routes p t keys is_open is_open_then held held_then begin_of begi
           (λ l e. subst (λ k. AtMost k K) (sym (fits l e).1) not_above));
       own = λ i z here. own-line (arrival_of K) t.line (newest p) known.own own i z
           (ap (λ ps. slice_get ps i) (sym (newest-push p t (arrival_of K))) ∙ here);
-      small = ap (is_orderly_unstalled routes) (report-push p.passed t (arrival_of K))
+      exact = ap (is_orderly_unstalled routes) (report-push p.passed t (arrival_of K))
           ∙ unstalled-line routes (arrival_of K) t.line (report_of p.passed) known.small
           (λ l e. held_back routes K (newest p) l known.bounded (subst (λ k. AtMost k K) (sym (fits l e).1) not_above)
           (λ z i here later. (place l e).1 ∙ calm)

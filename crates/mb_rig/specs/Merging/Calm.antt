@@ -7,7 +7,7 @@ use Rattle.mb_rig.specs.RigText.{Setup}
 use Rattle.mb_rig.specs.Merging.Lines.{Key}
 use Rattle.mb_rig.specs.Merging.Run.{AtMost}
 use Rattle.mb_rig.specs.Merging.Routed.{open_of, keys_of}
-use Rattle.mb_rig.specs.Merging.Tags.{Play, begin_of}
+use Rattle.mb_rig.specs.Merging.Playing.{Play, begin_of}
 use Rattle.mb_rig.specs.Merging.Unstalled.{UnstalledOrder}
 use Rattle.mb_rig.specs.Merging.Course.{Links}
 

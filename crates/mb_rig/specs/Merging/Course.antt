@@ -28,9 +28,10 @@ use Rattle.mb_rig.specs.Merging.Lines.{Key, Line, arrival_of, is_below, is_sysex
 use Rattle.mb_rig.specs.Merging.Run.{AtMost}
 use Rattle.mb_rig.specs.Merging.Unbroken.{HasOwner}
 use Rattle.mb_rig.specs.Merging.Routed.{open_of, keys_of}
-use Rattle.mb_rig.specs.Merging.Tags.{Tag, Play, AreTags, IsTag, is_realtime_sign, is_tag_of, tags_of, tags_passed}
+use Rattle.mb_rig.specs.Merging.Tags.{Tag, AreTags, IsTag, is_realtime_sign, is_tag_of, tags_of}
+use Rattle.mb_rig.specs.Merging.Playing.{Play, tags_passed}
 use Rattle.mb_rig.specs.Merging.Tags.{tag_at, under_of}
-use Rattle.mb_rig.specs.Merging.Tags.{RisesFrom, begin_of}
+use Rattle.mb_rig.specs.Merging.Playing.{RisesFrom, begin_of}
 use Rattle.mb_rig.specs.Merging.Order.{Order, sharing}
 use Rattle.mb_rig.specs.Merging.Realtimes.{RealtimesFit, IsLatest, places_of, stands}
 use Rattle.mb_rig.specs.Merging.Places.{AreBelow, Places}

@@ -18,7 +18,8 @@ use Rattle.mb_rig.specs.Merging.Lines.{Line, Source, marks_of}
 use Rattle.mb_rig.specs.Merging.Report.{Passing, goes}
 use Rattle.mb_rig.specs.Merging.Merged.{AreOfSources, AreFrontsOfSources, items_of, realtimes_of, realtimes_merged}
 use Rattle.mb_rig.specs.Merging.Orderly.{is_orderly}
-use Rattle.mb_rig.specs.Merging.Tags.{PassedTag, is_realtime_sign}
+use Rattle.mb_rig.specs.Merging.Tags.{is_realtime_sign}
+use Rattle.mb_rig.specs.Merging.Playing.{PassedTag}
 use Rattle.mb_rig.specs.Merging.Course.{Links}
 
 abbrev pub sources_from : (at : ℕ) → List RigPort → (tapes : ℕ → List ℕ) → List Source

@@ -1,7 +1,10 @@
 -- What passes to an out, mark by mark, against the lines that it completes.
 --
 --   LinesFit unders ts       each tag's line is what its source's marks so far say
--- Follows open ts the tags may stand at an out one after another: `open` is the source whose SysEx is open there
+-- Follows owner ts the tags may stand at an out one after another; the owner is the source whose SysEx is open
+--                            there
+--   OutsKnown goes open ts   of each out: what went there follows, and its owner is the open source that goes there
+--   MayGo goes open t        a mark may pass now: what the router knows of it
 use Rattle.std.specs.Prelude.{◌≡◌, ℕ, Bool, true, false, ◌==◌, if◌then◌else◌, List, [], ◌∷◌, filter, Option, Some, None}
 use Rattle.mb_message.specs.Signs.{Sign, ShortSign, RtSign, OpenSign, ByteSign, EndSign, AbortSign, suits_sign}
 use Rattle.mb_rig.specs.Merging.Lines.{Line}
@@ -50,7 +53,7 @@ Follows o (t ∷ ts) = MayFollow o t.source t.sign × Follows (owner_behind o t.
 -- the data of the owner's SysEx
 abbrev pub open_data : (ℕ → Under) → Option ℕ → Option (List ℕ)
 open_data unders None = None
-open_data unders (Some o) = Some (unders o).ds
+open_data unders (Some o) = Some (unders o).data_bytes
 
 abbrev pub end_unders : (ℕ → Under) → List Tag → ℕ → Under
 end_unders unders [] = unders

@@ -1,7 +1,10 @@
 -- What is kept of the order of a run, call by call of the router.
 --
---   newest p             the report, newest first
---   Order routes m p ..    the router plays the tags, and the report stands in order
+--   newest p                 the report, newest first
+--   sharing routes o x       two sources share, by the routes
+--   Bounded greatest before  no line has a key, or a moment, above the greatest key's
+--   LineFits t               a tag's line is its source's and has its key
+--   Order routes m p ..      the router plays the tags, and the report stands in order
 use Rattle.std.specs.Prelude.{◌≡◌, ◌≤◌, ℕ, Bool, true, not, ◌&&◌, ◌==◌, List, reverse, map, Option, Some, slice_get}
 use Rattle.mb_merge.specs.Links.{Merger, link_of}
 use Rattle.mb_rig.specs.Merging.Lines.{Key, arrival_of, Line}
@@ -9,7 +12,8 @@ use Rattle.mb_rig.specs.Merging.Report.{Passing, share}
 use Rattle.mb_rig.specs.Merging.Orderly.{is_orderly}
 use Rattle.mb_rig.specs.Merging.Run.{AtMost, Lateness}
 use Rattle.mb_rig.specs.Merging.Routed.{key_of, run_of}
-use Rattle.mb_rig.specs.Merging.Tags.{Tag, Play, Plays, InTurn, report_of}
+use Rattle.mb_rig.specs.Merging.Tags.{Tag}
+use Rattle.mb_rig.specs.Merging.Playing.{Play, Plays, InTurn, report_of}
 
 abbrev pub newest : Play → List Passing
 newest p = reverse (report_of p.passed)

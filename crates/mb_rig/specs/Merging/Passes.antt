@@ -7,7 +7,8 @@ use Rattle.mb_merge.specs.declared.router.Passed.{Passed}
 use Rattle.mb_merge.specs.Links.{Merger}
 use Rattle.mb_rig.specs.RigText.{Setup}
 use Rattle.mb_rig.specs.Merging.Lines.{Key, arrival_of}
-use Rattle.mb_rig.specs.Merging.Tags.{IsOffered, IsTag, Play, Tag}
+use Rattle.mb_rig.specs.Merging.Tags.{IsTag, Tag}
+use Rattle.mb_rig.specs.Merging.Playing.{IsOffered, Play}
 use Rattle.mb_rig.specs.Merging.Course.{Course, Links, freed}
 use Rattle.mb_rig.specs.Merging.Calm.{Calm}
 

@@ -1,7 +1,7 @@
 -- The places of what is held and of what has passed, `next` being how many marks of each source were taken.
 use Rattle.std.specs.Prelude.{◌≡◌, ◌≢◌, ℕ, ◌<◌, List, [], ◌∷◌, Some, slice_get}
 use Rattle.mb_rig.specs.Merging.Report.{Passing}
-use Rattle.mb_rig.specs.Merging.Tags.{Play}
+use Rattle.mb_rig.specs.Merging.Playing.{Play}
 use Rattle.mb_rig.specs.Merging.Order.{newest}
 use Rattle.mb_rig.specs.Merging.Realtimes.{places_of}
 

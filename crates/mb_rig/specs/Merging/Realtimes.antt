@@ -1,17 +1,18 @@
--- What is kept of real-time lines, call by call of the router, over tags.
+-- What is kept of real-time lines, call by call of the router.
 --
 --   stands p is_open held    the run that a play is, of what its router tells
---   places_of p              the places of the held tags of a source
---   PlaceFits t              a tag's line, if it completes one, has its place, and is real-time where its sign is
+--   places_of p x            the places of the held tags of a source
+--   PlaceFits t              a tag's line has its place, and is real-time where its sign is
 --   IsLatest p t             each line of the tag's source in the report has a lower place
---   RealtimesFit routes p ..       the third part of merged holds of the report, and what its next lines need
+--   RealtimesFit routes p .. the third part of merged holds of the report, and what its next lines need
 use Rattle.std.specs.Prelude.{◌≡◌, ℕ, ◌<◌, Bool, true, false, List, map, Some, None, slice_get}
 use Rattle.mb_rig.specs.Merging.Lines.{Key, no_key, is_realtime, Line}
 use Rattle.mb_rig.specs.Merging.Report.{Passing}
 use Rattle.mb_rig.specs.Merging.Merged.{realtimes_merged}
 use Rattle.mb_rig.specs.Merging.Run.{Run}
 use Rattle.mb_rig.specs.Merging.Unbroken.{Overtaken}
-use Rattle.mb_rig.specs.Merging.Tags.{Tag, Play, report_of, is_realtime_sign}
+use Rattle.mb_rig.specs.Merging.Tags.{Tag, is_realtime_sign}
+use Rattle.mb_rig.specs.Merging.Playing.{Play, report_of}
 use Rattle.mb_rig.specs.Merging.Order.{newest, sharing}
 
 abbrev pub stands : Play → (ℕ → Bool) → (ℕ → List Key) → Run
@@ -20,8 +21,7 @@ stands p is_open held = record {
   held = held;
   present = λ x. None;
   stalled = λ x. false;
-  greatest =
-      no_key 0;
+  greatest = no_key 0;
   report = newest p;
 }
 

@@ -10,7 +10,8 @@
 --   kind_of_sign m           what a mark completes, if it does
 --   moments_to routes out r  the moments of passing of the lines to an out that aren't broken
 --   each_fits fits report    each line fits behind those before it, the newest first
-use Rattle.std.specs.Prelude.{ℕ, Bool, true, false, not, ◌&&◌, ◌==◌, List, [], ◌∷◌, map, flat_map, filter, Option, Some, None}
+use Rattle.std.specs.Prelude.{ℕ, Bool, true, false, not, ◌&&◌, ◌==◌, List, [], ◌∷◌, map, flat_map, filter, Option, Some}
+use Rattle.std.specs.Prelude.{None}
 use Rattle.std.specs.List.{list_any, range_with_len}
 use Rattle.mb_merge.specs.Opening.{stands_in}
 use Rattle.mb_message.specs.Signs.{Sign, ShortSign, RtSign, OpenSign, ByteSign, EndSign, AbortSign}

@@ -1,11 +1,16 @@
 -- What holds of a run between any two marks that pass.
+--
+-- Run of each source: whether it is open, the keys of its held marks, the key of its record under
+-- way or else of its next, and whether it is stalled; the greatest key of any step so far; the
+--                            report, newest first
+--   AtMost a b               a key isn't above another
+--   Stood shares report x P  a SysEx line of another source that shares, of which P holds, stands in the report
+--   Lateness shares r        a source that is late waits for an owner, or was held by a line of the greatest key
+--   Drained shares r         what a drained router is, and what the choice of a step knows
 use Rattle.std.specs.Prelude.{◌≡◌, ◌≢◌, ◌⊎◌, ℕ, Bool, true, false, List, [], Option, Some, slice_get}
 use Rattle.mb_rig.specs.Merging.Lines.{Key, is_below, is_sysex, Line}
 use Rattle.mb_rig.specs.Merging.Report.{Passing}
 
--- Of each source: whether it is open, the keys of its held marks, the key of its record under way or else of its next,
--- and
--- whether it is stalled (flagged, and its ring is full). The greatest key of any step so far. The report, newest first.
 pub record Run : Type 0 where
   pub is_open : ℕ → Bool
   pub held : ℕ → List Key
