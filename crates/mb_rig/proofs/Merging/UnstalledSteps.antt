@@ -135,7 +135,7 @@ unstalled-offered routes p t is_open is_open_then held begin_of begin_then K kno
       own = λ i z here. own-line (arrival_of K) t.line (newest p) known.own own i z
           (ap (λ ps. slice_get ps i) (sym (newest-push p t (arrival_of K))) ∙ here);
       exact = ap (is_orderly_unstalled routes) (report-push p.passed t (arrival_of K))
-          ∙ unstalled-line routes (arrival_of K) t.line (report_of p.passed) known.small
+          ∙ unstalled-line routes (arrival_of K) t.line (report_of p.passed) known.exact
           (λ l e. at_greatest routes K (newest p) l known.bounded ((fits l e).1 ∙ at));
     }
   where
@@ -174,7 +174,7 @@ unstalled-head routes p t keys is_open is_open_then held held_then begin_of begi
       own = λ i z here. own-line (arrival_of K) t.line (newest p) known.own own i z
           (ap (λ ps. slice_get ps i) (sym (newest-push p t (arrival_of K))) ∙ here);
       exact = ap (is_orderly_unstalled routes) (report-push p.passed t (arrival_of K))
-          ∙ unstalled-line routes (arrival_of K) t.line (report_of p.passed) known.small
+          ∙ unstalled-line routes (arrival_of K) t.line (report_of p.passed) known.exact
           (λ l e. held_back routes K (newest p) l known.bounded (subst (λ k. AtMost k K) (sym (fits l e).1) not_above)
           (λ z i here later. (place l e).1 ∙ calm)
           (λ c from to. subst (λ s. Stood (sharing routes) (newest p) s

@@ -14,4 +14,4 @@ pub returns-clause-renews : goal.returns-clause-renews
 returns-clause-renews c = calm-renews
 
 pub returns-clause-orderly : goal.returns-clause-orderly
-returns-clause-orderly c = λ s m links greatest play calm. calm.order.small
+returns-clause-orderly c = λ s m links greatest play calm. calm.order.exact
