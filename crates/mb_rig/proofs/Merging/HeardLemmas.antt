@@ -66,9 +66,9 @@ data_kept : (unders : ℕ → Under) (source : ℕ) (u : Under) (o : Option ℕ)
 data_kept unders source u None same = refl
 data_kept unders source u (Some x) same = ⊎_elim
     (λ (e : x ≡ source). ap (λ (data_bytes : List ℕ). Some data_bytes)
-        (ap (λ y. (with_under unders source u y).data_bytes) e
+    (ap (λ y. (with_under unders source u y).data_bytes) e
     ∙ (ap (λ (v : Under). v.data_bytes) (with_under-same unders source u)
-        ∙ (same ∙ ap (λ y. (unders y).data_bytes) (sym e)))))
+    ∙ (same ∙ ap (λ y. (unders y).data_bytes) (sym e)))))
     (λ (apart : x ≢ source). ap (λ (v : Under). Some v.data_bytes) (other x apart))
     (same_or_not x source)
   where

@@ -238,7 +238,7 @@ realtimes-head routes p t rest moment is_open is_open_then held held_then known 
           (map (λ (u : Tag). u.place) rest) known.overtaken
           (ap (map (λ (u : Tag). u.place)) first)
           (ap (map (λ (u : Tag). u.place)) (with_held-same p.held t.source (drop 1 (p.held t.source))
-              ∙ ap (drop 1) first))
+          ∙ ap (drop 1) first))
           some
           (λ x other. (
             (others x other).0,

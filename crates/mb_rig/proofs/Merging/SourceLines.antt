@@ -41,7 +41,7 @@ lines-tags source place begin data_bytes ((key, EndSign) ∷ ms) =
     ap (λ xs. l ∷ xs) (lines-tags source (place + 1) begin [] ms)
 lines-tags source place begin data_bytes ((key, AbortSign) ∷ ms) =
     let l : Line = record { source = source; place = place; event = Ends (Broken data_bytes); key = key; begin = begin }
-        in
+    in
     ap (λ xs. l ∷ xs) (lines-tags source (place + 1) begin [] ms)
 
 pub source-lines : (source : ℕ) (puts : List Put) → lines_of source puts ≡ lines_heard (tags_of source puts)
@@ -152,7 +152,7 @@ filter-two x kind (t ∷ ts) = by_tests (t.source == x) refl (kind t.sign) refl 
 kind-heard : (source : ℕ) (of_line : Event → Bool) (of_sign : Sign → Bool) (u : Under) (ms : List (Key × Sign)) →
     ((place : ℕ) (begin : Key) (data_bytes : List ℕ) (m : Sign) (key : Key) (l : Line) →
     line_at source (record { place = place; begin = begin; data_bytes = data_bytes }) key m ≡ Some l →
-        of_line l.event ≡ of_sign m)
+    of_line l.event ≡ of_sign m)
     →
     filter (λ (l : Line). of_line l.event) (lines_heard (tags_from source u ms)) ≡ lines_heard
     (filter (λ (t : Tag). of_sign t.sign) (tags_from source u ms))
@@ -225,7 +225,7 @@ turns-heard p x puts turns idle all own =
     ap (filter in_turn) (source-lines x puts)
     ∙ (kind-heard x (λ e. not (is_realtime e)) (λ m. not (is_realtime_sign m)) (nothing_under x) (keyed_marks x puts)
     (λ place begin data_bytes m key l e. ap not (line_kind x
-        (record { place = place; begin = begin; data_bytes = data_bytes }) m key l e))
+    (record { place = place; begin = begin; data_bytes = data_bytes }) m key l e))
     ∙ (ap lines_heard (ap (filter (λ (t : Tag). not (is_realtime_sign t.sign))) (sym all)
     ∙ (sym (filter-two x (λ m. not (is_realtime_sign m)) p.taken) ∙ (turns.turns x
     ∙ ap (λ (o : Option Tag). filter (tag_in_turn x) (tags_passed p) ++ (filter (tag_in_turn x) (one o) ++ p.held x))
@@ -241,7 +241,7 @@ once-heard p x puts turns idle all own =
     ap (filter is_at_once) (source-lines x puts)
     ∙ (kind-heard x is_realtime is_realtime_sign (nothing_under x) (keyed_marks x puts)
     (λ place begin data_bytes m key l e. line_kind x (record { place = place; begin = begin; data_bytes = data_bytes })
-        m key l e)
+    m key l e)
     ∙ (ap lines_heard (ap (filter (λ (t : Tag). is_realtime_sign t.sign)) (sym all)
     ∙ (sym (filter-two x is_realtime_sign p.taken) ∙ (turns.realtimes x
     ∙ (ap (λ (o : Option Tag). filter (tag_at_once x) (tags_passed p) ++ filter (tag_at_once x) (one o)) idle

@@ -9,18 +9,14 @@
 --   report_of passed         the lines that what has passed completes
 --   begin_of p source        the key of the last SysEx start that has passed of a source
 --   RisesFrom n passed m     moments of passing don't fall, from one on to another
-use Rattle.std.specs.Prelude.{◌≡◌, ◌≤◌, ℕ, ◌+◌, Bool, true, false, not, ◌&&◌, ◌==◌, if◌then◌else◌, List, [], ◌∷◌, ◌++◌}
+use Rattle.std.specs.Prelude.{◌≡◌, ◌≤◌, ℕ, Bool, not, ◌&&◌, ◌==◌, if◌then◌else◌, List, [], ◌∷◌, ◌++◌}
 use Rattle.std.specs.Prelude.{map, filter, flat_map, drop, Option, Some, None}
 use Rattle.mb_message.specs.Signs.{Sign, ShortSign, RtSign, OpenSign, ByteSign, EndSign, AbortSign, sign_of}
-use Rattle.mb_stream.specs.Denotation.{Message, Syx, Broken}
-use Rattle.mb_message.specs.Bytes.{is_data}
-use Rattle.mb_stream.specs.Puts.{Put}
-use Rattle.mb_stream.specs.Standing.{is_valid}
 use Rattle.mb_merge.specs.declared.source.Held.{Held}
 use Rattle.mb_merge.specs.declared.router.Passed.{Passed}
 use Rattle.mb_merge.specs.Links.{Merger, link_of}
 use Rattle.mb_merge.specs.Calls.{one}
-use Rattle.mb_rig.specs.Merging.Lines.{Key, Event, Ends, Realtime, Line, keyed_marks, no_key}
+use Rattle.mb_rig.specs.Merging.Lines.{Key, Line, no_key}
 use Rattle.mb_rig.specs.Merging.Report.{Passing}
 use Rattle.mb_rig.specs.Merging.Tags.{Tag, is_realtime_sign}
 

@@ -7,19 +7,14 @@
 --   tags_of source puts      the marks of a source as tags
 --   under_of source puts     what is under way behind them
 --   IsTag t                  a tag is that of a mark of its source
-use Rattle.std.specs.Prelude.{◌≡◌, ◌≤◌, ℕ, ◌+◌, Bool, true, false, not, ◌&&◌, ◌==◌, if◌then◌else◌, List, [], ◌∷◌, ◌++◌}
-use Rattle.std.specs.Prelude.{map, filter, flat_map, drop, Option, Some, None}
-use Rattle.mb_message.specs.Signs.{Sign, ShortSign, RtSign, OpenSign, ByteSign, EndSign, AbortSign, sign_of}
+use Rattle.std.specs.Prelude.{◌≡◌, ℕ, ◌+◌, Bool, true, false, ◌==◌, List, [], ◌∷◌, ◌++◌}
+use Rattle.std.specs.Prelude.{Option, Some, None}
+use Rattle.mb_message.specs.Signs.{Sign, ShortSign, RtSign, OpenSign, ByteSign, EndSign, AbortSign}
 use Rattle.mb_stream.specs.Denotation.{Message, Syx, Broken}
 use Rattle.mb_message.specs.Bytes.{is_data}
 use Rattle.mb_stream.specs.Puts.{Put}
 use Rattle.mb_stream.specs.Standing.{is_valid}
-use Rattle.mb_merge.specs.declared.source.Held.{Held}
-use Rattle.mb_merge.specs.declared.router.Passed.{Passed}
-use Rattle.mb_merge.specs.Links.{Merger, link_of}
-use Rattle.mb_merge.specs.Calls.{one}
 use Rattle.mb_rig.specs.Merging.Lines.{Key, Event, Ends, Realtime, Line, keyed_marks, no_key}
-use Rattle.mb_rig.specs.Merging.Report.{Passing}
 
 pub record Under : Type 0 where
   pub place : ℕ
