@@ -28,3 +28,6 @@ pub mod CalmSteps
 pub mod CourseKnows
 mod RunExamples
 pub mod PassesTold
+pub mod Offers
+pub mod OpenBegins
+pub mod OutTags

@@ -7,9 +7,12 @@ ghost use Rattle.std.specs.Prelude.{◌≡◌, ◌<◌, ◌≤◌, ◌/◌, ◌+
 ghost use Rattle.mb_message.specs.declared.mark.Mark.{Mark};
 ghost use Rattle.mb_message.specs.Signs.{sign_of, suits_sign};
 ghost use Rattle.mb_stream.specs.Denotation.{denotation};
-ghost use Rattle.mb_stream.specs.Puts.{At, signs_in};
+ghost use Rattle.mb_stream.specs.Puts.{At, Put, signs_in};
 ghost use Rattle.mb_stream.specs.Standing.{AreValid, is_open, suited};
 ghost use Rattle.mb_ble.specs.Distances.{message_moments};
+ghost use Rattle.mb_carrier.specs.Carrier.{den, written};
+ghost use Rattle.mb_carrier.specs.Word.{IsSpec};
+ghost use Rattle.mb_carrier.specs.declared.spec.Spec.{Spec};
 ghost use Rattle.mb_merge.specs.declared.router.Passed.{Passed};
 ghost use Rattle.mb_merge.specs.Links.{Merger, link_of};
 ghost use Rattle.mb_merge.specs.Passing.{has_room, next_of, offered_in, passes_now};
@@ -80,7 +83,7 @@ pub fn runs_merge()
 
 /// What passed to an out may stand there, mark after mark, and a mark that passes may stand next at each of its outs.
 /// It means what the report's lines to that out mean, but for a last broken SysEx where one is open there; at the end,
-/// just that. Its messages have the moments of passing of their lines.
+/// just that, and so does what any carrier writes of it, with flushes between or not. Its messages have the moments of passing of their lines.
 pub fn runs_are_heard()
     ensures suits { (s : Setup) (m : Merger) (links : Links) (greatest : Key) (play : Play) (out : ℕ) →
         Course s m links greatest play → out < 16 →
@@ -96,6 +99,11 @@ pub fn runs_are_heard()
         Course s m links greatest play → m.draining ≡ false → ((x : ℕ) → links.present x ≡ None) → out < 16 →
         denotation (signs_in (puts_to s.routes out play.passed))
         ≡ meant_by (lines_to s.routes out (report_of play.passed)) }
+    ensures written { (s : Setup) (m : Merger) (links : Links) (greatest : Key) (play : Play) (out : ℕ) (spec : Spec)
+        (puts : List Put) → Course s m links greatest play → m.draining ≡ false →
+        ((x : ℕ) → links.present x ≡ None) → out < 16 → IsSpec spec →
+        signs_in puts ≡ signs_in (puts_to s.routes out play.passed) →
+        den spec (written spec puts) ≡ meant_by (lines_to s.routes out (report_of play.passed)) }
     ensures moments { (s : Setup) (m : Merger) (links : Links) (greatest : Key) (play : Play) (out : ℕ) →
         Course s m links greatest play →
         message_moments (puts_to s.routes out play.passed) ≡ moments_to s.routes out (report_of play.passed) }

@@ -19,7 +19,7 @@ use Rattle.mb_rig.proofs.Merging.Reached.{reached-fits, reached-settled}
 use Rattle.mb_rig.proofs.Merging.SourceLines.{AreOwnLines, of-source, front-of-source}
 use Rattle.mb_rig.proofs.Merging.Given.{tag-line, tag-place}
 use Rattle.mb_rig.proofs.Merging.CourseMarks.{no-offer, no-tags}
-use Rattle.mb_rig.proofs.Merging.CourseTakes.{owners-present}
+use Rattle.mb_rig.proofs.Merging.Offers.{owners-present}
 
 pub own-lines : (ts : List Tag) → AreTags ts → AreOwnLines ts
 own-lines [] are = tt

@@ -29,7 +29,7 @@ use Rattle.mb_rig.proofs.Merging.Lateness.{true_or_not}
 use Rattle.mb_rig.proofs.Merging.SourceLines.{filter-cons, filter-two}
 use Rattle.mb_rig.proofs.Merging.Reached.{reached-fits}
 use Rattle.mb_rig.proofs.Merging.CourseMarks.{no-offer}
-use Rattle.mb_rig.proofs.Merging.CourseTakes.{course-drained}
+use Rattle.mb_rig.proofs.Merging.Offers.{course-drained}
 use Rattle.mb_rig.proofs.Merging.OutsHeard.{course-suits}
 
 -- Where a link has a record, one that isn't stalled has.

@@ -42,7 +42,7 @@ use Rattle.mb_rig.proofs.Merging.Reached.{reached-fits, reached-goes, reached-sh
 use Rattle.mb_rig.proofs.Merging.Given.{rises-push, here-same, elsewhere, tag-line, tag-place, tag-ends, AreTags-push}
 use Rattle.mb_rig.proofs.Merging.Given.{AreTags-drop}
 use Rattle.mb_rig.proofs.Merging.CourseMarks.{mark-realtime, mark-opens, no-tags}
-use Rattle.mb_rig.proofs.Merging.CourseTakes.{at_place}
+use Rattle.mb_rig.proofs.Merging.Offers.{at_place}
 
 -- a mark behind which no SysEx is open any more ends it
 pub closes : (b : Bool) (mark : Mark) → b ≡ true → opens b mark ≡ false →

@@ -27,7 +27,7 @@ use Rattle.mb_rig.proofs.Merging.PlaySteps.{in_turn-begins}
 use Rattle.mb_rig.proofs.Merging.OwnerLemmas.{outs-begin}
 use Rattle.mb_rig.proofs.Merging.Given.{here-same, elsewhere, rises-later}
 use Rattle.mb_rig.proofs.Merging.CourseMarks.{no-offer, nothing-held}
-use Rattle.mb_rig.proofs.Merging.CourseTakes.{course-drained, open-within}
+use Rattle.mb_rig.proofs.Merging.Offers.{course-drained, open-within}
 
 idle_of : (s : Setup) (m : Merger) (links : Links) (K : Key) (play : Play) → Course s m links K play →
     m.draining ≡ false → play.offered ≡ None

@@ -1,4 +1,4 @@
--- The definitions compute: two tapes whose links share an out, and two reports that aren't theirs.
+-- The definitions compute: two tapes whose links share an out, and three reports that aren't theirs.
 use Rattle.std.proofs.Common.{◌≡◌, ℕ, true, false, List, [], ◌∷◌, refl}
 use Rattle.mb_message.specs.Signs.{ShortSign, RtSign, OpenSign, ByteSign, EndSign}
 use Rattle.mb_stream.specs.Denotation.{Message, Syx, denotation}

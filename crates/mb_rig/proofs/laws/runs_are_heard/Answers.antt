@@ -1,5 +1,5 @@
 use Rattle.mb_rig.proofs.Merging.CourseKnows.{passes-suits}
-use Rattle.mb_rig.proofs.Merging.OutsHeard.{course-heard, course-means, course-suits}
+use Rattle.mb_rig.proofs.Merging.OutsHeard.{course-heard, course-means, course-suits, course-written}
 use Rattle.mb_rig.proofs.Merging.PassesTold.{course-moments}
 use Rattle.mb_rig.proofs.laws.runs_are_heard.Goals as goal
 
@@ -17,3 +17,6 @@ returns-clause-means c = course-means
 
 pub returns-clause-moments : goal.returns-clause-moments
 returns-clause-moments c = course-moments
+
+pub returns-clause-written : goal.returns-clause-written
+returns-clause-written c = course-written

@@ -1,5 +1,5 @@
 use Rattle.mb_rig.proofs.Merging.CourseKnows.{course-progress, course-room}
-use Rattle.mb_rig.proofs.Merging.CourseTakes.{owners-present}
+use Rattle.mb_rig.proofs.Merging.Offers.{owners-present}
 use Rattle.mb_rig.proofs.laws.runs_go_on.Goals as goal
 
 pub returns-clause-owners : goal.returns-clause-owners
