@@ -83,7 +83,8 @@ pub fn runs_merge()
 
 /// What passed to an out may stand there, mark after mark, and a mark that passes may stand next at each of its outs.
 /// It means what the report's lines to that out mean, but for a last broken SysEx where one is open there; at the end,
-/// just that, and so does what any carrier writes of it, with flushes between or not. Its messages have the moments of passing of their lines.
+/// just that, and so does what any carrier writes of it, with flushes between or not. Its messages have the moments of
+/// passing of their lines.
 pub fn runs_are_heard()
     ensures suits { (s : Setup) (m : Merger) (links : Links) (greatest : Key) (play : Play) (out : ℕ) →
         Course s m links greatest play → out < 16 →

@@ -1,54 +1,37 @@
 -- What the course knows as a mark is offered, and what an offer keeps whether the mark passes at once or not.
-use Rattle.std.proofs.Common.{◌≡◌, ◌≢◌, ◌⊎◌, ⊎_elim, ℕ, zero, suc, ◌+◌, ◌<◌, ◌≤◌, Bool, true, false, List, []}
-use Rattle.std.proofs.Common.{◌∷◌, ◌++◌, length, map, filter, Option, Some, None, refl, ap, sym, subst, ◌∙◌, arith}
+use Rattle.std.proofs.Common.{◌≡◌, ◌≢◌, ⊎_elim, ℕ, zero, suc, ◌+◌, ◌<◌, ◌≤◌, Bool, true, false, List, []}
+use Rattle.std.proofs.Common.{◌∷◌, ◌++◌, length, filter, Option, Some, None, refl, ap, sym, subst, ◌∙◌, arith}
 use Rattle.std.proofs.Common.{append-nil}
 use Rattle.std.specs.Prelude.{◌==◌, if◌then◌else◌, slice_set}
 use Rattle.std.proofs.lemmas.Bool.Decides.{nat_tests}
 use Rattle.std.proofs.lemmas.List.Elements.{filter-append}
 use Rattle.mb_message.specs.declared.mark.Mark.{Mark}
-use Rattle.mb_message.specs.declared.mark.Mark.TheVariants.{Short, Rt, Open, Byte, End, Abort}
-use Rattle.mb_message.specs.Signs.{Sign, sign_of, suits_sign, ShortSign, RtSign, OpenSign, ByteSign, EndSign, AbortSign}
+use Rattle.mb_message.specs.Signs.{Sign, sign_of, suits_sign}
 use Rattle.mb_stream.specs.Puts.{Put, At, signs_in}
 use Rattle.mb_stream.specs.Standing.{is_open}
 use Rattle.mb_stream.proofs.StandingLemmas.{open_after, is_open-push}
 use Rattle.mb_merge.specs.declared.source.Held.{Held}
 use Rattle.mb_merge.specs.Links.{Link, Merger, link_at, link_of}
-use Rattle.mb_merge.specs.Passing.{is_realtime_mark, opens, passes_now, taken, offered_mark, offered_in}
-use Rattle.mb_merge.specs.Calls.{IsSettled, one}
+use Rattle.mb_merge.specs.Passing.{opens, taken, offered_mark}
+use Rattle.mb_merge.specs.Calls.{IsSettled}
 use Rattle.mb_merge.proofs.Flows.{link_at-set_same, link_at-set_other}
-use Rattle.mb_merge.proofs.Fits.{Fits, Passes, passes-why, waits-why}
+use Rattle.mb_merge.proofs.Fits.{Fits}
 use Rattle.mb_rig.specs.RigText.{Setup}
-use Rattle.mb_rig.specs.Merging.Lines.{Key, Line, is_sysex, key_at, no_key}
+use Rattle.mb_rig.specs.Merging.Lines.{Key, key_at}
 use Rattle.mb_rig.specs.Merging.Run.{Drained}
-use Rattle.mb_rig.specs.Merging.Unbroken.{HasOwner}
-use Rattle.mb_rig.specs.Merging.Routed.{key_of, open_of, keys_of, run_of}
-use Rattle.mb_rig.specs.Merging.Tags.{line_at}
-use Rattle.mb_rig.specs.Merging.Playing.{begin_behind, tag_in_turn}
-use Rattle.mb_rig.specs.Merging.Tags.{Tag, AreTags, is_realtime_sign, is_tag_of, tags_of}
-use Rattle.mb_rig.specs.Merging.Playing.{Play, tags_passed, takes}
+use Rattle.mb_rig.specs.Merging.Routed.{run_of}
+use Rattle.mb_rig.specs.Merging.Tags.{Tag, is_tag_of, tags_of}
+use Rattle.mb_rig.specs.Merging.Playing.{Play}
 use Rattle.mb_rig.specs.Merging.Tags.{under_of}
-use Rattle.mb_rig.specs.Merging.Playing.{with_held}
 use Rattle.mb_rig.specs.Merging.Order.{newest, sharing}
-use Rattle.mb_rig.specs.Merging.Realtimes.{stands}
-use Rattle.mb_rig.specs.Merging.Heard.{MayGo, OutsKnown, opens_sign}
-use Rattle.mb_rig.specs.Merging.Course.{Links, Course, MayOffer, Offering, IsReached, AreSorted}
-use Rattle.mb_rig.specs.Merging.Course.{gives, goes_out, next_tag, start_of}
+use Rattle.mb_rig.specs.Merging.Course.{Links, Course, AreSorted}
+use Rattle.mb_rig.specs.Merging.Course.{gives, next_tag}
 use Rattle.mb_rig.proofs.Merging.Lateness.{true≢false, none≢some, some_same, same_or_not}
-use Rattle.mb_rig.proofs.Merging.Overtaken.{Anyone}
-use Rattle.mb_rig.proofs.Merging.PlaySteps.{with_held-same, with_held-other}
 use Rattle.mb_rig.proofs.Merging.RouterEvents.{drained_of}
-use Rattle.mb_rig.proofs.Merging.OrderSteps.{order-accepts, order-takes}
-use Rattle.mb_rig.proofs.Merging.RealtimeSteps.{owner-drained}
-use Rattle.mb_rig.proofs.Merging.PlaceSteps.{places-accepts, places-takes, latest-of}
-use Rattle.mb_rig.proofs.Merging.RoutedSteps.{open_kept, keys_kept, realtimes_routed-accepts, realtimes_routed-takes}
-use Rattle.mb_rig.proofs.Merging.MayGo.{may-go}
-use Rattle.mb_rig.proofs.Merging.Reached.{reached-offer, reached-fits, reached-settled, reached-shares, reached-sources}
-use Rattle.mb_rig.proofs.Merging.Reached.{reached-goes}
-use Rattle.mb_rig.proofs.Merging.Given.{given-begin, given-link, tag-begin, tags_of-push, place-push, signs-push}
-use Rattle.mb_rig.proofs.Merging.Given.{here-same, elsewhere, AreTags-push}
-use Rattle.mb_rig.proofs.Merging.CourseMarks.{mark-realtime, mark-opens, suits-opens, offer-may, nothing-held}
-use Rattle.mb_rig.proofs.Merging.CourseMarks.{held-closed}
-use Rattle.mb_rig.proofs.Merging.CourseMarks.{mark-sound, no-tags, no-offer}
+use Rattle.mb_rig.proofs.Merging.Reached.{reached-fits, reached-settled, reached-shares}
+use Rattle.mb_rig.proofs.Merging.Given.{tags_of-push, place-push, signs-push}
+use Rattle.mb_rig.proofs.Merging.Given.{here-same, elsewhere}
+use Rattle.mb_rig.proofs.Merging.CourseMarks.{suits-opens, nothing-held}
 
 -- the router behind an offer that passes at once, or doesn't
 abbrev pub offer_by : Merger → (x moment : ℕ) → Mark → (passes : Bool) → Merger

@@ -1,52 +1,25 @@
 -- Where the open SysEx of a source began, one more mark having passed.
-use Rattle.std.proofs.Common.{◌≡◌, ◌≢◌, ◌⊎◌, inl, inr, ⊎_elim, ℕ, ◌<◌, Bool, true, false, List, [], ◌∷◌, ◌++◌, length}
+use Rattle.std.proofs.Common.{◌≡◌, ◌≢◌, ◌⊎◌, inl, inr, ℕ, Bool, true, false, List, [], ◌∷◌, ◌++◌}
 use Rattle.std.proofs.Common.{map}
-use Rattle.std.proofs.Common.{filter, Option, Some, None, refl, ap, sym, subst, ◌∙◌, arith, append-nil}
-use Rattle.std.specs.Prelude.{not, ◌&&◌, ◌||◌, ◌==◌, nat_lt, if◌then◌else◌, slice_get, slice_set}
+use Rattle.std.proofs.Common.{filter, refl, ap, sym, ◌∙◌, arith, append-nil}
+use Rattle.std.specs.Prelude.{not, ◌&&◌, ◌==◌, if◌then◌else◌}
 use Rattle.std.proofs.lemmas.Bool.Decides.{nat_tests}
 use Rattle.std.proofs.lemmas.List.Elements.{filter-append}
 use Rattle.mb_message.specs.declared.mark.Mark.{Mark}
 use Rattle.mb_message.specs.declared.mark.Mark.TheVariants.{Short, Rt, Open, Byte, End, Abort}
 use Rattle.mb_message.specs.Signs.{Sign, sign_of, suits_sign, ShortSign, RtSign, OpenSign, ByteSign, EndSign, AbortSign}
-use Rattle.mb_merge.specs.declared.source.Held.{Held}
-use Rattle.mb_merge.specs.declared.router.Passed.{Passed}
-use Rattle.mb_merge.specs.Links.{Merger, HasSource, link_of, is_owned, share}
-use Rattle.mb_merge.specs.Passing.{is_realtime_mark, may_pass, opens, passes_now, offered_in, after_pass, after_head}
-use Rattle.mb_merge.specs.Passing.{taken}
-use Rattle.mb_merge.specs.Calls.{IsClosed}
-use Rattle.mb_merge.proofs.Fits.{Fits, waits-why}
-use Rattle.mb_merge.proofs.Flows.{NoRealtime}
-use Rattle.mb_merge.proofs.Histories.{head-suits, opened-IsFresh}
-use Rattle.mb_merge.proofs.LinkLemmas.{is_owned_below-who}
-use Rattle.mb_rig.specs.RigText.{Setup}
-use Rattle.mb_rig.specs.Merging.Lines.{Key, Line, arrival_of, is_below, is_sysex, key_at, no_key}
-use Rattle.mb_rig.specs.Merging.Run.{AtMost}
-use Rattle.mb_rig.specs.Merging.Routed.{key_of, open_of, keys_of}
+use Rattle.mb_merge.specs.Passing.{opens}
+use Rattle.mb_rig.specs.Merging.Lines.{Key, no_key}
 use Rattle.mb_rig.specs.Merging.Tags.{Tag, IsTag}
 use Rattle.mb_rig.specs.Merging.Playing.{PassedTag, Play, begin_at, begin_behind, begin_of, begin_then}
 use Rattle.mb_rig.specs.Merging.Tags.{is_realtime_sign}
-use Rattle.mb_rig.specs.Merging.Playing.{begins_play, head_goes, offered_goes, tag_in_turn}
-use Rattle.mb_rig.specs.Merging.Playing.{tags_passed, takes}
-use Rattle.mb_rig.specs.Merging.Order.{sharing}
-use Rattle.mb_rig.specs.Merging.Heard.{opens_sign}
-use Rattle.mb_rig.specs.Merging.Unstalled.{OwnFits, UnstalledOrder}
-use Rattle.mb_rig.specs.Merging.Course.{Course, IsLeastKey, IsNextKey, IsReached, Links, MayOffer, Offering}
-use Rattle.mb_rig.specs.Merging.Course.{at_link, first_links, freed, gives, greater, next_tag, renews, start_of}
-use Rattle.mb_rig.specs.Merging.Calm.{Calm}
-use Rattle.mb_rig.proofs.Merging.Lateness.{true≢false, none≢some, same_key, same_or_not, at_most_trans}
+use Rattle.mb_rig.specs.Merging.Playing.{tag_in_turn}
+use Rattle.mb_rig.specs.Merging.Playing.{tags_passed}
+use Rattle.mb_rig.specs.Merging.Unstalled.{OwnFits}
+use Rattle.mb_rig.proofs.Merging.Lateness.{true≢false}
 use Rattle.mb_rig.proofs.Merging.PlaySteps.{passed-push}
 use Rattle.mb_rig.proofs.Merging.SourceLines.{filter-cons}
-use Rattle.mb_rig.proofs.Merging.RouterEvents.{no_owner}
-use Rattle.mb_rig.proofs.Merging.UnstalledSteps.{unstalled-begins}
-use Rattle.mb_rig.proofs.Merging.RoutedSteps.{unstalled_routed-accepts, unstalled_routed-takes}
-use Rattle.mb_rig.proofs.Merging.RoutedSteps.{unstalled_routed-offered}
-use Rattle.mb_rig.proofs.Merging.RoutedSteps.{unstalled_routed-head, with_link}
 use Rattle.mb_rig.proofs.Merging.PlaceSteps.{tag_at-own}
-use Rattle.mb_rig.proofs.Merging.Reached.{reached-fits, reached-settled, reached-shares, reached-sources}
-use Rattle.mb_rig.proofs.Merging.Given.{elsewhere, here-same, tag-ends, tag-line, tag-place}
-use Rattle.mb_rig.proofs.Merging.CourseMarks.{held-closed, mark-realtime, mark-opens, nothing-held}
-use Rattle.mb_rig.proofs.Merging.Offers.{course-drained}
-use Rattle.mb_rig.proofs.Merging.CoursePasses.{closes}
 
 -- where the open SysEx of a source began, one more mark having passed
 

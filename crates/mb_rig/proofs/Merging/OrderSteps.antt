@@ -143,25 +143,25 @@ pub order-offered : (routes : List (ℕ × ℕ)) (m : Merger) (p : Play) (presen
       links = slice_set m.links q.source (after_pass (link_of m q.source) q.mark);
       offered = None;
     }) (offered_goes p t (arrival_of K)) present stalled K
-order-offered routes m p present stalled K q t ran is_q is_t own came key in_range free here not_above fits opening
+order-offered routes m p present stalled K q t known is_q is_t own came key in_range free here not_above fits opening
     ending =
     let same : t.key ≡ record { moment = q.arrival; link = q.source } = λ i. record
     { moment = sym came i; link = (key ∙ sym own) i } in
-    let passed = report-passes routes p t K ran.bounded ran.orderly fits not_above
-    (λ below. late.offered_in_order (sharing routes) (run_of m present stalled K (newest p)) t.source t.key ran.late
+    let passed = report-passes routes p t K known.bounded known.orderly fits not_above
+    (λ below. late.offered_in_order (sharing routes) (run_of m present stalled K (newest p)) t.source t.key known.late
     free here below) in
     record {
-      plays = plays.plays-offered m p q t (arrival_of K) ran.plays in_range;
-      turns = plays.in_turn-offered p t (arrival_of K) ran.turns is_t;
+      plays = plays.plays-offered m p q t (arrival_of K) known.plays in_range;
+      turns = plays.in_turn-offered p t (arrival_of K) known.turns is_t;
       late = subst (λ ps. Lateness (sharing routes) (run_of
           (record m { links = slice_set m.links q.source (after_pass (link_of m q.source) q.mark); offered = None })
           present stalled K ps)) (sym (newest-push p t (arrival_of K)))
           (router_passes (sharing routes) m present stalled K (newest p) q (passing_of (arrival_of K) t.line) None
-          ran.late in_range
+          known.late in_range
           (subst (λ (k : Key). present q.source ≡ Some k) same (ap present own ∙ here))
           (subst (λ (k : Key). AtMost k K) same not_above) opening
           (λ was now. subst (λ (k : Key). EndsBy q.source k (passing_of (arrival_of K) t.line)) same (ending was now)));
-      within = λ x i k e. ran.within x i k (ap (λ hs. slice_get (map (key_of x) hs) i)
+      within = λ x i k e. known.within x i k (ap (λ hs. slice_get (map (key_of x) hs) i)
           (sym (held_kept m.links q.source (after_pass (link_of m q.source) q.mark) x in_range refl)) ∙ e);
       bounded = passed.1;
       orderly = passed.0;
@@ -178,27 +178,29 @@ pub order-head : (routes : List (ℕ × ℕ)) (m : Merger) (p : Play) (present :
     ((link_of m s).is_open ≡ false → (o : ℕ) → (link_of m o).is_open ≡ true → sharing routes o s ≡ true → ⊥) →
     Order routes (record m { links = slice_set m.links s (after_head (link_of m s) h.mark) })
     (head_goes p t (arrival_of K)) present stalled_then K
-order-head routes m p present stalled stalled_then K s h hs t rest ran idle is own first came key calm fits sorted
+order-head routes m p present stalled stalled_then K s h hs t rest known idle is own first came key calm fits sorted
     others may =
     let in_range : s < length m.links = in_range_of m.links s h hs is in
     let same : t.key ≡ key_of s h = λ i. record { moment = sym came i; link = (key ∙ own) i } in
-    let not_above : AtMost (key_of s h) K = ran.within s 0 (key_of s h) (ap (λ gs. slice_get (map (key_of s) gs) 0) is)
+    let not_above : AtMost (key_of s h) K = known.within s 0 (key_of s h)
+    (ap (λ gs. slice_get (map (key_of s) gs) 0) is)
     in
-    let passed = report-passes routes p t K ran.bounded ran.orderly fits (subst (λ k. AtMost k K) (sym same) not_above)
+    let passed = report-passes routes p t K known.bounded known.orderly fits
+    (subst (λ k. AtMost k K) (sym same) not_above)
     (λ below. subst (λ x. Stood (sharing routes) (newest p) x (λ y. y.key ≡ K)) (sym own)
     (late.held_in_order (sharing routes) (run_of m present stalled K (newest p)) s (key_of s h) (map (key_of s) hs)
-    ran.late (ap (map (key_of s)) is) may
+    known.late (ap (map (key_of s)) is) may
     (inl (key_of s h, ap (λ gs. slice_get (map (key_of s) gs) 0) is, ap (λ k. is_below k K) (sym same) ∙ below)))) in
     record {
       plays = subst (λ x. Plays (record m { links = slice_set m.links x (after_head (link_of m x) h.mark) })
           (head_goes p t (arrival_of K))) own
-          (plays.plays-head m p h t (arrival_of K) ran.plays (subst (λ x. x < length m.links) (sym own) in_range));
-      turns = plays.in_turn-head p t rest (arrival_of K) ran.turns idle first calm;
+          (plays.plays-head m p h t (arrival_of K) known.plays (subst (λ x. x < length m.links) (sym own) in_range));
+      turns = plays.in_turn-head p t rest (arrival_of K) known.turns idle first calm;
       late = subst (λ ps. Lateness (sharing routes) (run_of
           (record m { links = slice_set m.links s (after_head (link_of m s) h.mark) }) present stalled_then K ps))
           (sym (newest-push p t (arrival_of K)))
           (router_head (sharing routes) m present stalled stalled_then K (newest p) s h hs
-          (passing_of (arrival_of K) t.line) ran.late is sorted others may);
+          (passing_of (arrival_of K) t.line) known.late is sorted others may);
       within = λ x i k e. within_dropped x i k in_range e;
       bounded = passed.1;
       orderly = passed.0;
@@ -217,14 +219,15 @@ order-head routes m p present stalled stalled_then K s h hs t rest ran idle is o
         (map (key_of x) (link_at (slice_set m.links s (after_head (link_of m s) h.mark)) x).held) i ≡ Some k →
         AtMost k K
     within_dropped x i k in_range e = ⊎_elim
-        (λ (same : x ≡ s). ran.within x (suc i) k (ap (λ y. slice_get (map (key_of x) (link_of m y).held) (suc i)) same
+        (λ (same : x ≡ s). known.within x (suc i) k (ap (λ y. slice_get (map (key_of x) (link_of m y).held) (suc i))
+        same
         ∙ (ap (λ gs. slice_get (map (key_of x) gs) (suc i)) is
         ∙ (ap (λ gs. slice_get (map (key_of x) (drop 1 gs)) i) (sym is)
         ∙ (ap (λ (l : Link). slice_get (map (key_of x) l.held) i)
         (sym (link_at-set_same m.links s (after_head (link_of m s) h.mark) in_range))
         ∙ (ap (λ y. slice_get (map (key_of x) (link_at (slice_set m.links s (after_head (link_of m s) h.mark)) y).held)
         i) (sym same) ∙ e))))))
-        (λ (apart : x ≢ s). ran.within x i k (ap (λ (l : Link). slice_get (map (key_of x) l.held) i)
+        (λ (apart : x ≢ s). known.within x i k (ap (λ (l : Link). slice_get (map (key_of x) l.held) i)
         (sym (link_at-set_other m.links s x (after_head (link_of m s) h.mark) apart)) ∙ e))
         (same_or_not x s)
 
@@ -241,17 +244,17 @@ pub order-takes : (routes : List (ℕ × ℕ)) (m : Merger) (p : Play) (present 
       offered = None;
       draining = true;
     }) (takes p false t) present stalled K
-order-takes routes m p present stalled K t mark ran none idle in_range sign key free here not_above closed calm =
+order-takes routes m p present stalled K t mark known none idle in_range sign key free here not_above closed calm =
     let same : t.key ≡ record { moment = t.key.moment; link = t.source } = λ i. record
     { moment = t.key.moment; link = key i } in
     record {
-      plays = plays.plays-takes m p t mark false ran.plays in_range sign key;
-      turns = plays.in_turn-takes p t false ran.turns idle (λ e. absurd (true≢false (sym e))) (λ e. calm);
-      late = router_takes (sharing routes) m present stalled K (newest p) t.source t.key.moment mark ran.late in_range
+      plays = plays.plays-takes m p t mark false known.plays in_range sign key;
+      turns = plays.in_turn-takes p t false known.turns idle (λ e. absurd (true≢false (sym e))) (λ e. calm);
+      late = router_takes (sharing routes) m present stalled K (newest p) t.source t.key.moment mark known.late in_range
           closed free (here ∙ ap (λ (k : Key). Some k) same) false refl;
       within = λ x i k e. within_more x i k e;
-      bounded = ran.bounded;
-      orderly = ran.orderly;
+      bounded = known.bounded;
+      orderly = known.orderly;
     }
   where
     now : Link
@@ -273,12 +276,12 @@ order-takes routes m p present stalled K t mark ran none idle in_range sign key 
         AtMost k K
     within_more x i k e = ⊎_elim
         (λ (own : x ≡ t.source). last t.source (link_of m t.source).held
-        (record { arrival = t.key.moment; mark = mark }) i k (ran.within t.source) here_key
+        (record { arrival = t.key.moment; mark = mark }) i k (known.within t.source) here_key
         (ap (λ (l : Link). slice_get (map (key_of t.source) l.held) i)
         (sym (link_at-set_same m.links t.source (taken (link_of m t.source) false t.key.moment mark) in_range))
         ∙ (ap (λ y. slice_get (map (key_of y) (link_at (slice_set m.links t.source
         (taken (link_of m t.source) false t.key.moment mark)) y).held) i) (sym own) ∙ e)))
-        (λ (apart : x ≢ t.source). ran.within x i k (ap (λ (l : Link). slice_get (map (key_of x) l.held) i)
+        (λ (apart : x ≢ t.source). known.within x i k (ap (λ (l : Link). slice_get (map (key_of x) l.held) i)
         (sym (link_at-set_other m.links t.source x (taken (link_of m t.source) false t.key.moment mark) apart))
         ∙ e))
         (same_or_not x t.source)
@@ -295,9 +298,9 @@ pub order-accepts : (routes : List (ℕ × ℕ)) (m : Merger) (p : Play) (presen
       offered = Some (record { source = t.source; arrival = t.key.moment; mark = mark });
       draining = true;
     }) (takes p true t) present stalled K
-order-accepts routes m p present stalled K t mark ran idle in_range sign key free = record {
-  plays = plays.plays-takes m p t mark true ran.plays in_range sign key;
-  turns = plays.in_turn-takes p t true ran.turns idle (λ e. free) (λ e. absurd (true≢false e));
+order-accepts routes m p present stalled K t mark known idle in_range sign key free = record {
+  plays = plays.plays-takes m p t mark true known.plays in_range sign key;
+  turns = plays.in_turn-takes p t true known.turns idle (λ e. free) (λ e. absurd (true≢false e));
   late = subst (Lateness (sharing routes)) (same_run (λ x. (link_of m x).is_open)
       (λ x. (link_at (slice_set m.links t.source (taken (link_of m t.source) true t.key.moment mark)) x).is_open)
       (λ x. map (key_of x) (link_of m x).held) (λ x. map (key_of x)
@@ -305,11 +308,11 @@ order-accepts routes m p present stalled K t mark ran idle in_range sign key fre
       stalled K (newest p)
       (λ x. sym (open_kept m.links t.source (taken (link_of m t.source) true t.key.moment mark) x in_range refl))
       (λ x. ap (map (key_of x)) (sym (held_kept m.links t.source (taken (link_of m t.source) true t.key.moment mark) x
-      in_range refl)))) ran.late;
-  within = λ x i k e. ran.within x i k (ap (λ hs. slice_get (map (key_of x) hs) i)
+      in_range refl)))) known.late;
+  within = λ x i k e. known.within x i k (ap (λ hs. slice_get (map (key_of x) hs) i)
       (sym (held_kept m.links t.source (taken (link_of m t.source) true t.key.moment mark) x in_range refl)) ∙ e);
-  bounded = ran.bounded;
-  orderly = ran.orderly;
+  bounded = known.bounded;
+  orderly = known.orderly;
 }
   where
     open_kept : (links : List Link) (source : ℕ) (link : Link) (x : ℕ) → source < length links →
@@ -327,19 +330,19 @@ pub order-begins : (routes : List (ℕ × ℕ)) (m : Merger) (p : Play) (present
     Drained (sharing routes) (run_of m present stalled K (newest p)) →
     ((x : ℕ) (c : Key) → stalled x ≡ false → present x ≡ Some c → AtMost k c) →
     Order routes m p present stalled (if is_below K k then k else K)
-order-begins routes m p present stalled K i k ran drained least = record {
-  plays = ran.plays;
-  turns = ran.turns;
-  late = late.begins (sharing routes) (run_of m present stalled K (newest p)) i k ran.late drained least;
-  within = λ x j c e. at_most_trans c K (if is_below K k then k else K) (ran.within x j c e)
+order-begins routes m p present stalled K i k known drained least = record {
+  plays = known.plays;
+  turns = known.turns;
+  late = late.begins (sharing routes) (run_of m present stalled K (newest p)) i k known.late drained least;
+  within = λ x j c e. at_most_trans c K (if is_below K k then k else K) (known.within x j c e)
       (grows (is_below K k) refl);
   bounded = record {
-    keys = λ j z e. at_most_trans z.line.key K (if is_below K k then k else K) (ran.bounded.keys j z e)
+    keys = λ j z e. at_most_trans z.line.key K (if is_below K k then k else K) (known.bounded.keys j z e)
         (grows (is_below K k) refl);
-    moments = λ j z e. let at = ran.bounded.moments j z e in let more = arrival_grows (is_below K k) refl in omega
+    moments = λ j z e. let at = known.bounded.moments j z e in let more = arrival_grows (is_below K k) refl in omega
         (arith, at, more);
   };
-  orderly = ran.orderly;
+  orderly = known.orderly;
 }
   where
     self : (a : Key) → AtMost a a
@@ -367,12 +370,13 @@ pub order-ends : (routes : List (ℕ × ℕ)) (m : Merger) (p : Play) (present p
     ((c : Key) → present_then i ≡ Some c → AtMost k c) →
     ((link_of m i).is_open ≡ true → (c : Key) × (present_then i ≡ Some c)) →
     Order routes m p present_then stalled_then K
-order-ends routes m p present present_then stalled stalled_then K i k ran free here others later goes_on = record {
-  plays = ran.plays;
-  turns = ran.turns;
-  late = late.ends (sharing routes) (run_of m present stalled K (newest p)) present_then stalled_then i k ran.late free
+order-ends routes m p present present_then stalled stalled_then K i k known free here others later goes_on = record {
+  plays = known.plays;
+  turns = known.turns;
+  late = late.ends (sharing routes) (run_of m present stalled K (newest p)) present_then stalled_then i k known.late
+      free
       here others later goes_on;
-  within = ran.within;
-  bounded = ran.bounded;
-  orderly = ran.orderly;
+  within = known.within;
+  bounded = known.bounded;
+  orderly = known.orderly;
 }

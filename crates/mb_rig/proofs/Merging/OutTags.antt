@@ -1,46 +1,31 @@
 -- The tags to an out: which of them there are, and that their lines are what their marks say.
-use Rattle.std.proofs.Common.{◌≡◌, ℕ, ◌<◌, Bool, true, false, List, [], ◌∷◌, ◌++◌, length, map}
-use Rattle.std.proofs.Common.{filter, Option, Some, None, refl, ap, sym, subst, ◌∙◌, arith, append-nil}
+use Rattle.std.proofs.Common.{◌≡◌, ℕ, ◌<◌, Bool, true, false, List, [], ◌∷◌, ◌++◌, length}
+use Rattle.std.proofs.Common.{filter, None, refl, ap, sym, subst, ◌∙◌, arith}
 use Rattle.std.specs.Prelude.{not, ◌&&◌, ◌==◌, if◌then◌else◌}
-use Rattle.std.specs.List.{list_all}
 use Rattle.std.proofs.lemmas.Bool.Decides.{nat_tests}
-use Rattle.mb_message.specs.Bytes.{is_data}
-use Rattle.mb_message.specs.Signs.{Sign, ShortSign, RtSign, OpenSign, ByteSign, EndSign, AbortSign}
-use Rattle.mb_stream.specs.Denotation.{denotation, left_open}
-use Rattle.mb_stream.specs.Puts.{Put, signs_in}
-use Rattle.mb_stream.specs.Standing.{AreValid, is_valid, suited}
-use Rattle.mb_stream.proofs.StandingLemmas.{Suited, suited-from_Suited}
-use Rattle.mb_carrier.specs.Carrier.{den, written}
-use Rattle.mb_carrier.specs.Word.{IsSpec}
-use Rattle.mb_carrier.specs.declared.spec.Spec.{Spec}
-use Rattle.mb_carrier.proofs.ConversionLemmas.{laws}
+use Rattle.mb_message.specs.Signs.{Sign}
 use Rattle.mb_merge.specs.Calls.{one}
 use Rattle.mb_merge.specs.Links.{Merger}
 use Rattle.mb_merge.proofs.Tracks.{routed}
 use Rattle.mb_rig.specs.RigText.{Setup}
-use Rattle.mb_rig.specs.Merging.Lines.{Key, Line, keyed_marks}
-use Rattle.mb_rig.specs.Merging.Report.{Passing, goes, lines_to}
-use Rattle.mb_rig.specs.Merging.Merged.{items_of, realtimes_of, meant_by}
-use Rattle.mb_rig.specs.Merging.Tags.{Tag, AreTags, is_realtime_sign, is_sound}
-use Rattle.mb_rig.specs.Merging.Playing.{PassedTag, Play}
+use Rattle.mb_rig.specs.Merging.Lines.{Key, keyed_marks}
+use Rattle.mb_rig.specs.Merging.Report.{goes}
+use Rattle.mb_rig.specs.Merging.Tags.{Tag, AreTags, is_realtime_sign}
+use Rattle.mb_rig.specs.Merging.Playing.{Play}
 use Rattle.mb_rig.specs.Merging.Tags.{nothing_under}
-use Rattle.mb_rig.specs.Merging.Playing.{line_of, report_of, tag_in_turn, tags_passed}
-use Rattle.mb_rig.specs.Merging.Heard.{Follows, LinesFit, MayFollow, end_owner, end_unders, open_data}
-use Rattle.mb_rig.specs.Merging.Heard.{owner_behind}
+use Rattle.mb_rig.specs.Merging.Playing.{tag_in_turn, tags_passed}
+use Rattle.mb_rig.specs.Merging.Heard.{Follows, LinesFit}
 use Rattle.mb_rig.specs.Merging.Course.{AreWithin, Course, Links, goes_out}
-use Rattle.mb_rig.specs.Merging.Ended.{MeansSoFar, puts_to, put_of}
 use Rattle.mb_rig.proofs.Merging.Lateness.{true≢false}
-use Rattle.mb_rig.proofs.Merging.HeardLemmas.{is_taken, items-heard, lines_heard, realtimes-heard, signs_heard}
 use Rattle.mb_rig.proofs.Merging.SourceLines.{filter-cons, filter-two}
 use Rattle.mb_rig.proofs.Merging.FitLemmas.{FitsTurns, FitAnywhere, lines-fit, reading-fits, tags-fit, turns-front}
-use Rattle.mb_rig.proofs.Merging.Given.{tag-line}
-use Rattle.mb_rig.proofs.Merging.CourseEnds.{all-closed}
 
 -- the tags to an out, by the routes
 abbrev pub tags_to : List (ℕ × ℕ) → (out : ℕ) → List Tag → List Tag
 tags_to routes out ts = filter (λ (t : Tag). goes routes t.source out) ts
 
-pub both-filters : (f g : Tag → Bool) (ts : List Tag) (n : ℕ) → ((t : Tag) → t.source < n → f t ≡ g t) → AreWithin n ts →
+pub both-filters : (f g : Tag → Bool) (ts : List Tag) (n : ℕ) → ((t : Tag) → t.source < n → f t ≡ g t) →
+    AreWithin n ts →
     filter f ts ≡ filter g ts
 both-filters f g [] n same are = refl
 both-filters f g (t ∷ ts) n same are = by_test (g t) refl (both-filters f g ts n same are.1)
@@ -139,7 +124,8 @@ same-tags s out ts below are = both-filters (λ (t : Tag). goes_out s out t.sour
     (λ (t : Tag). goes s.routes t.source out) ts
     (length s.ins) (λ t within. routed (length s.ins) (length s.outs) t.source out s.routes within below) are
 
-pub out-follows : (s : Setup) (m : Merger) (links : Links) (K : Key) (play : Play) → Course s m links K play → (out : ℕ) →
+pub out-follows : (s : Setup) (m : Merger) (links : Links) (K : Key) (play : Play) → Course s m links K play →
+    (out : ℕ) →
     out < 16 → Follows None (tags_to s.routes out (tags_passed play))
 out-follows s m links K play course out below =
     subst (Follows None) (same-tags s out (tags_passed play) below course.sources) (course.outs.follows out)

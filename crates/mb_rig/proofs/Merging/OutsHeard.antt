@@ -1,9 +1,8 @@
 -- What passed to an out means what the report's lines to it mean, and may stand there.
-use Rattle.std.proofs.Common.{◌≡◌, ℕ, ◌<◌, Bool, true, false, List, [], ◌∷◌, ◌++◌, length, map}
-use Rattle.std.proofs.Common.{filter, Option, Some, None, refl, ap, sym, subst, ◌∙◌, arith, append-nil}
-use Rattle.std.specs.Prelude.{not, ◌&&◌, ◌==◌, if◌then◌else◌}
+use Rattle.std.proofs.Common.{◌≡◌, ℕ, ◌<◌, Bool, true, false, List, [], ◌∷◌, ◌++◌, map}
+use Rattle.std.proofs.Common.{filter, Option, Some, None, refl, ap, sym, subst, ◌∙◌, append-nil}
+use Rattle.std.specs.Prelude.{not, ◌&&◌, if◌then◌else◌}
 use Rattle.std.specs.List.{list_all}
-use Rattle.std.proofs.lemmas.Bool.Decides.{nat_tests}
 use Rattle.mb_message.specs.Bytes.{is_data}
 use Rattle.mb_message.specs.Signs.{Sign, ShortSign, RtSign, OpenSign, ByteSign, EndSign, AbortSign}
 use Rattle.mb_stream.specs.Denotation.{denotation, left_open}
@@ -14,25 +13,22 @@ use Rattle.mb_carrier.specs.Carrier.{den, written}
 use Rattle.mb_carrier.specs.Word.{IsSpec}
 use Rattle.mb_carrier.specs.declared.spec.Spec.{Spec}
 use Rattle.mb_carrier.proofs.ConversionLemmas.{laws}
-use Rattle.mb_merge.specs.Calls.{one}
 use Rattle.mb_merge.specs.Links.{Merger}
-use Rattle.mb_merge.proofs.Tracks.{routed}
 use Rattle.mb_rig.specs.RigText.{Setup}
-use Rattle.mb_rig.specs.Merging.Lines.{Key, Line, keyed_marks}
+use Rattle.mb_rig.specs.Merging.Lines.{Key, Line}
 use Rattle.mb_rig.specs.Merging.Report.{Passing, goes, lines_to}
 use Rattle.mb_rig.specs.Merging.Merged.{items_of, realtimes_of, meant_by}
-use Rattle.mb_rig.specs.Merging.Tags.{Tag, AreTags, is_realtime_sign, is_sound}
+use Rattle.mb_rig.specs.Merging.Tags.{Tag, AreTags, is_sound}
 use Rattle.mb_rig.specs.Merging.Playing.{PassedTag, Play}
 use Rattle.mb_rig.specs.Merging.Tags.{nothing_under}
-use Rattle.mb_rig.specs.Merging.Playing.{line_of, report_of, tag_in_turn, tags_passed}
-use Rattle.mb_rig.specs.Merging.Heard.{Follows, LinesFit, MayFollow, end_owner, end_unders, open_data}
+use Rattle.mb_rig.specs.Merging.Playing.{line_of, report_of, tags_passed}
+use Rattle.mb_rig.specs.Merging.Heard.{Follows, MayFollow, end_owner, end_unders, open_data}
 use Rattle.mb_rig.specs.Merging.Heard.{owner_behind}
-use Rattle.mb_rig.specs.Merging.Course.{AreWithin, Course, Links, goes_out}
+use Rattle.mb_rig.specs.Merging.Course.{Course, Links, goes_out}
 use Rattle.mb_rig.specs.Merging.Ended.{MeansSoFar, puts_to, put_of}
 use Rattle.mb_rig.proofs.Merging.Lateness.{true≢false}
 use Rattle.mb_rig.proofs.Merging.HeardLemmas.{is_taken, items-heard, lines_heard, realtimes-heard, signs_heard}
-use Rattle.mb_rig.proofs.Merging.SourceLines.{filter-cons, filter-two}
-use Rattle.mb_rig.proofs.Merging.FitLemmas.{FitsTurns, FitAnywhere, lines-fit, reading-fits, tags-fit, turns-front}
+use Rattle.mb_rig.proofs.Merging.SourceLines.{filter-cons}
 use Rattle.mb_rig.proofs.Merging.Given.{tag-line}
 use Rattle.mb_rig.proofs.Merging.CourseEnds.{all-closed}
 use Rattle.mb_rig.proofs.Merging.OutTags.{tags_to, tags-filter, out-fits, same-tags, out-follows}
