@@ -3,3 +3,4 @@ pub mod LineLemmas
 pub mod RigLemmas
 pub mod RightLemmas
 mod Examples
+pub mod Merging

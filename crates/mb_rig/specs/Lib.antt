@@ -1,3 +1,4 @@
 pub mod RigText
 pub mod RigAnswer
 pub mod Right
+pub mod Merging

@@ -9,3 +9,5 @@ mod rig;
 pub use fault::{RigFault, Why};
 pub use name::{Name, Port};
 pub use rig::Rig;
+
+pub mod laws;
