@@ -1,5 +1,6 @@
 pub mod LineLemmas
 pub mod GuardLemmas
+pub mod FilterLemmas
 pub mod EndLemmas
 pub mod FeedLemmas
 pub mod RecordedLemmas
