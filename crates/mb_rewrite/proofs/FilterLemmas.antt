@@ -59,10 +59,16 @@ before_of f = record {
   line = f.line;
 }
 
-pub new-stands : (f : Filtering) → TrackTold f.track [] → track_of f.track ≡ 0 → track_offset f.track ≡ 0 →
-    (f.mapper) ≡ mapping (filtering_rules f) false → LineStands f.line [] → f.line.begun ≡ false → FilteringStands f []
-new-stands f told track offset maps line begun = record {
-  so_far = record { told = told; of_track = track; kept = maps; written = line };
+pub new-stands : (f : Filtering) (rules : List Rule) → TrackTold f.track [] → track_of f.track ≡ 0 →
+    track_offset f.track ≡ 0 → f.mapper ≡ mapping rules false → LineStands f.line [] → f.line.begun ≡ false →
+    FilteringStands f []
+new-stands f rules told track offset maps line begun = record {
+  so_far = record {
+    told = told;
+    of_track = track;
+    kept = maps ∙ ap (λ (rs : List Rule). mapping rs false) (sym (ap (λ (z : Mapping). z.rules) maps));
+    written = line;
+  };
   offset = omega (arith, offset);
   begun = begun;
 }
