@@ -6,3 +6,4 @@ pub mod FeedLemmas
 pub mod RecordedLemmas
 pub mod RisingLemmas
 pub mod CarriedLemmas
+pub mod FilteredLemmas
