@@ -28,15 +28,17 @@ use Rattle.mb_carrier.specs.declared.spec.Spec.{Spec}
 use Rattle.mb_track.specs.Track.{last_record_moment, track_end, track_marks, track_marks_so_far, track_records}
 use Rattle.mb_track.specs.TrackReading.{TrackGone, TrackStands, TrackTold, event_signs, track_moment, track_of}
 use Rattle.mb_track.specs.TrackReading.{track_offset, track_spec}
-use Rattle.mb_track.proofs.FrontLemmas.{all-suit, told-front, told-suits}
-use Rattle.mb_rewrite.specs.LineTape.{line_beyond, line_ended, line_so_far, line_tape}
+use Rattle.mb_track.proofs.EndLemmas.{all-closed}
+use Rattle.mb_track.proofs.FrontLemmas.{all-suit}
+use Rattle.mb_rewrite.specs.LineTape.{line_tape}
 use Rattle.mb_rewrite.specs.Line.{LineHalted, LineStands, LineWrote}
-use Rattle.mb_rewrite.specs.Guarded.{guarded, guarded_so_far, guarded_tape, is_begun}
-use Rattle.mb_rewrite.specs.Guarding.{EndHalted, EndHeard, GuardingStands, HasTold, closing_puts, ending_puts}
+use Rattle.mb_rewrite.specs.Guarded.{guarded, guarded_tape}
+use Rattle.mb_rewrite.specs.Guarding.{EndHalted, EndHeard, GuardHasTold, GuardingStands, off_puts}
 use Rattle.mb_rewrite.specs.Guarding.{guarding_spec}
 use Rattle.mb_rewrite.specs.declared.guarding.Guarding.{Guarding}
 use Rattle.mb_rewrite.specs.declared.line.LineTape.{LineTape}
-use Rattle.mb_rewrite.proofs.LineLemmas.{ended-more, halted-then, halted-within, wrote-none, wrote-then}
+use Rattle.mb_rewrite.proofs.FeedLemmas.{Before, Suiting}
+use Rattle.mb_rewrite.proofs.LineLemmas.{begun-stands, halted-then, halted-within, wrote-none, wrote-then}
 
 -- data of a SysEx turns no note
 pub sounds-run : (now : List Voice) (ms : List Sign) (bytes : List ℕ) → Stands now ms →
@@ -49,33 +51,36 @@ sounds-run now ms (b ∷ bs) st =
 pub new-stands : (g : Guarding) → TrackTold g.track [] → track_of g.track ≡ 0 → track_offset g.track ≡ 0 →
     Stands g.guard [] → LineStands g.line [] → g.line.begun ≡ false → GuardingStands g []
 new-stands g told track offset sounds line begun = record {
-  told = told;
-  of_track = track;
+  so_far = record { told = told; of_track = track; kept = sounds; written = line };
   offset = omega (arith, offset);
-  sounds = sounds;
-  line = line;
   begun = begun;
 }
 
+-- where feeding or finishing began
+abbrev pub before_of : Guarding → Before
+before_of g = record {
+  made = λ puts. puts;
+  none = refl;
+  joins = λ xs ys. refl;
+  keeps = Stands g.guard;
+  track = g.track;
+  line = g.line;
+}
+
 -- an event suits that the track's reader tells
-pub event-suits : (line : LineTape) (s : Spec) (track : ℕ) (tape : List ℕ) (told : List Put) (m : ℕ) (e : Ev) →
-    LineStands line told → IsFront (told ++ puts_at m (signs_of_event e)) (track_marks_so_far s track tape) →
-    suits_event line.writer.in_sysex e ≡ true
-event-suits line s track tape told m e st front =
-    subst (λ (o : Bool). suits_event o e ≡ true) (sym (st.writes).open_now)
-    (apart (signs_in told) e
-    (ap suited (sym (signs_in-append told (puts_at m (signs_of_event e))
-    ∙ ap (λ ms. signs_in told ++ ms) (signs_in-at m (signs_of_event e))))
-    ∙ told-suits s track tape (told ++ puts_at m (signs_of_event e)) front))
+pub event-suits : (g : Guarding) (guard : List Voice) (line : LineTape) (e : Ev) →
+    Suiting (before_of g) (Stands guard) line (signs_of_event e) → suits_event line.writer.in_sysex e ≡ true
+event-suits g guard line e s =
+    subst (λ (o : Bool). suits_event o e ≡ true) (sym (s.lines).writes.open_now) (apart (signs_in s.told) e s.suits)
 
 -- the end part suits
-pub end-suits : (g : Guarding) (bytes : List ℕ) (e : Ev) → HasTold g bytes →
+pub end-suits : (g : Guarding) (bytes : List ℕ) (e : Ev) → GuardHasTold g bytes →
     puts_at (track_moment g.track) (signs_of_event e) ≡ track_end (track_spec g.track) (track_of g.track) bytes →
     suits_event g.line.writer.in_sysex e ≡ true
 end-suits g bytes e h is_end =
     let s = track_spec g.track in
     let so_far = track_marks_so_far s 0 bytes in
-    subst (λ (o : Bool). suits_event o e ≡ true) (sym (h.line).writes.open_now)
+    subst (λ (o : Bool). suits_event o e ≡ true) (sym (h.written).writes.open_now)
     (apart (signs_in so_far) e
     (ap suited (sym (signs_in-append so_far (puts_at (track_moment g.track) (signs_of_event e))
     ∙ ap (λ ms. signs_in so_far ++ ms) (signs_in-at (track_moment g.track) (signs_of_event e))))
@@ -137,78 +142,119 @@ end-none g now held took none line guard is_end = record {
   is_end = λ bytes h. is_end bytes h.told ∙ ap (λ t. track_end (track_spec g.track) t bytes) h.of_track;
 }
 
--- the Note Offs
+-- behind it no SysEx is open
+pub end-closed : (g now : Guarding) (bytes held kept : List ℕ) (took : List ℕ → Type 0) → GuardHasTold g bytes →
+    EndHeard g now held kept took → now.line.writer.in_sysex ≡ false
+end-closed g now bytes held kept took h e =
+    let s = track_spec g.track in
+    let so_far = track_marks_so_far s 0 bytes in
+    let line = (e.wrote).stands so_far h.written in
+    (line.writes).open_now
+    ∙ (ap (λ ps. is_open (signs_in (so_far ++ ps))) (e.is_end bytes h) ∙ all-closed s 0 bytes)
 
-pub record Offs (was now : LineTape) (open_now : Bool) (m : ℕ) (voices left : List Voice) (held kept : List ℕ)
-    (took : List ℕ → Type 0) : Type 0 where
-  pub done : List Voice
-  pub split : voices ≡ done ++ left
-  pub wrote : LineWrote was now (closing_puts open_now m ++ puts_at m (map off_sign done)) held kept took
+-- what is written in the end
+pub ends-as : (g now : Guarding) (bytes held kept : List ℕ) (took : List ℕ → Type 0) → GuardHasTold g bytes →
+    (e : EndHeard g now held kept took) → track_moment now.track ≡ track_moment g.track →
+    guarded_tape (guarding_spec g) bytes ≡
+    line_tape (track_marks_so_far (guarding_spec g) 0 bytes ++ (e.more ++ off_puts now))
+ends-as g now bytes held kept took h e at =
+    let s = guarding_spec g in
+    let so_far = track_marks_so_far s 0 bytes in
+    let m = track_moment now.track in
+    let marks = so_far ++ e.more in
+    let sounds : now.guard ≡ sounding (denotation (signs_in marks)).items
+    = e.sounds (signs_in so_far) h.kept
+      ∙ ap (λ ms. sounding (denotation ms).items) (sym (signs_in-append so_far e.more)) in
+    sym (ap line_tape (sym (append_assoc so_far e.more (off_puts now)))
+    ∙ (ap (λ vs. line_tape (marks ++ puts_at m (map off_sign vs))) sounds
+    ∙ (ap (λ n. line_tape (guarded n marks)) (at ∙ (h.told).moment)
+    ∙ ap (λ ps. line_tape (guarded (last_record_moment (track_records bytes)) (so_far ++ ps))) (e.is_end bytes h))))
 
-pub offs-none : (was now : LineTape) (open_now : Bool) (m : ℕ) (voices : List Voice) (held kept : List ℕ)
-    (took : List ℕ → Type 0) → LineWrote was now (closing_puts open_now m) held kept took →
-    Offs was now open_now m voices voices held kept took
-offs-none was now open_now m voices held kept took w = record {
-  done = [];
-  split = refl;
-  wrote =
-      subst (λ (ps : List Put). LineWrote was now ps held kept took) (sym (append-nil (closing_puts open_now m))) w;
+-- the same, with nothing behind it
+pub ends-all : (g now : Guarding) (bytes held kept : List ℕ) (took : List ℕ → Type 0) → GuardHasTold g bytes →
+    (e : EndHeard g now held kept took) → track_moment now.track ≡ track_moment g.track →
+    (others : List Put) × (guarded_tape (guarding_spec g) bytes ≡
+        line_tape ((track_marks_so_far (guarding_spec g) 0 bytes ++ (e.more ++ off_puts now)) ++ others))
+ends-all g now bytes held kept took h e at =
+    let all = track_marks_so_far (guarding_spec g) 0 bytes ++ (e.more ++ off_puts now) in
+    ([], ends-as g now bytes held kept took h e at ∙ ap line_tape (sym (append-nil all)))
+
+-- what was put of the end when it was refused is a front of it
+pub end-front : (g : Guarding) (bytes held : List ℕ) (took : List ℕ → Type 0) → GuardHasTold g bytes →
+    (e : EndHalted g held took) →
+    (others : List Put) × (guarded_tape (guarding_spec g) bytes ≡
+        line_tape ((track_marks_so_far (guarding_spec g) 0 bytes ++ e.more) ++ others))
+end-front g bytes held took h e =
+    let s = guarding_spec g in
+    let offs = puts_at (last_record_moment (track_records bytes)) (off_marks (signs_in (track_marks s 0 bytes))) in
+    (offs, ap (λ ps. line_tape ((track_marks_so_far s 0 bytes ++ ps) ++ offs)) (sym (e.is_end bytes h)))
+
+pub has-told : (g g1 : Guarding) → g1.track ≡ g.track → g1.guard ≡ g.guard → g1.line.writer ≡ g.line.writer →
+    g1.line.gather ≡ g.line.gather → (bytes : List ℕ) → GuardingStands g bytes → GuardHasTold g1 bytes
+has-told g g1 track guard writer gather bytes st = record {
+  told = subst (λ t. TrackTold t bytes) (sym track) (st.so_far).told;
+  of_track = ap track_of track ∙ (st.so_far).of_track;
+  kept =
+      subst (λ t. Stands g1.guard (signs_in (track_marks_so_far (track_spec t) 0 bytes))) (sym track)
+      (subst (λ (vs : List Voice). Stands vs (signs_in (track_marks_so_far (track_spec g.track) 0 bytes))) (sym guard)
+      (st.so_far).kept);
+  written =
+      subst (λ t. LineStands g1.line (track_marks_so_far (track_spec t) 0 bytes)) (sym track)
+      (begun-stands g.line g1.line (track_marks_so_far (track_spec g.track) 0 bytes) writer gather (st.so_far).written);
 }
 
-off-more : (open_now : Bool) (m : ℕ) (done : List Voice) (v : Voice) →
-    closing_puts open_now m ++ puts_at m (map off_sign (done ++ v ∷ [])) ≡
-    (closing_puts open_now m ++ puts_at m (map off_sign done)) ++ puts_at m (off_sign v ∷ [])
-off-more open_now m done v =
-    ap (λ ps. closing_puts open_now m ++ ps)
-    (ap (puts_at m) (map-append off_sign done (v ∷ []))
-    ∙ puts_at-append m (map off_sign done) (off_sign v ∷ []))
-    ∙ sym (append_assoc (closing_puts open_now m) (puts_at m (map off_sign done)) (puts_at m (off_sign v ∷ [])))
+-- the Note Offs
 
-pub offs-then : (was mid now : LineTape) (open_now : Bool) (m : ℕ) (voices was_left left : List Voice) (v : Voice)
-    (sign : Sign) (h k l : List ℕ) (first second both : List ℕ → Type 0) →
-    ((x y : List ℕ) → first x → second y → both (x ++ y)) →
-    Offs was mid open_now m voices was_left h k first → was_left ≡ v ∷ left → sign ≡ off_sign v →
-    LineWrote mid now (puts_at m (sign ∷ [])) k l second → Offs was now open_now m voices left h l both
-offs-then was mid now open_now m voices was_left left v sign h k l first second both joined o e f w = record {
+pub record Offs (was now : LineTape) (m : ℕ) (voices left : List Voice) (held kept : List ℕ) (took : List ℕ → Type 0) :
+    Type 0 where
+  pub done : List Voice
+  pub split : voices ≡ done ++ left
+  pub wrote : LineWrote was now (puts_at m (map off_sign done)) held kept took
+
+pub offs-none : (line : LineTape) (m : ℕ) (voices : List Voice) (held : List ℕ) (took : List ℕ → Type 0) → took [] →
+    Offs line line m voices voices held held took
+offs-none line m voices held took none = record { done = []; split = refl; wrote = wrote-none line held took none }
+
+off-more : (m : ℕ) (done : List Voice) (v : Voice) →
+    puts_at m (map off_sign (done ++ v ∷ [])) ≡ puts_at m (map off_sign done) ++ puts_at m (off_sign v ∷ [])
+off-more m done v =
+    ap (puts_at m) (map-append off_sign done (v ∷ [])) ∙ puts_at-append m (map off_sign done) (off_sign v ∷ [])
+
+pub offs-then : (was mid now : LineTape) (m : ℕ) (voices was_left left : List Voice) (v : Voice) (sign : Sign)
+    (h k l : List ℕ) (first second both : List ℕ → Type 0) → ((x y : List ℕ) → first x → second y → both (x ++ y)) →
+    Offs was mid m voices was_left h k first → was_left ≡ v ∷ left → sign ≡ off_sign v →
+    LineWrote mid now (puts_at m (sign ∷ [])) k l second → Offs was now m voices left h l both
+offs-then was mid now m voices was_left left v sign h k l first second both joined o e f w = record {
   done = o.done ++ v ∷ [];
   split = o.split ∙ (ap (λ vs. o.done ++ vs) e ∙ sym (append_assoc o.done (v ∷ []) left));
   wrote =
-      subst (λ (ps : List Put). LineWrote was now ps h l both) (sym (off-more open_now m o.done v))
-      (wrote-then was mid now (closing_puts open_now m ++ puts_at m (map off_sign o.done)) (puts_at m (off_sign v ∷ [])) h
-      k l first second both joined o.wrote
-      (subst (λ (z : Sign). LineWrote mid now (puts_at m (z ∷ [])) k l second) f w));
+      subst (λ (ps : List Put). LineWrote was now ps h l both) (sym (off-more m o.done v))
+      (wrote-then was mid now (puts_at m (map off_sign o.done)) (puts_at m (off_sign v ∷ [])) h k l first second both
+      joined o.wrote (subst (λ (z : Sign). LineWrote mid now (puts_at m (z ∷ [])) k l second) f w));
 }
 
-pub offs-halted : (was mid : LineTape) (open_now : Bool) (m : ℕ) (voices was_left left : List Voice) (v : Voice)
-    (sign : Sign) (h k : List ℕ) (first second both : List ℕ → Type 0) →
-    ((x y : List ℕ) → first x → second y → both (x ++ y)) →
-    Offs was mid open_now m voices was_left h k first → was_left ≡ v ∷ left → sign ≡ off_sign v →
-    LineHalted mid (puts_at m (sign ∷ [])) k second →
-    LineHalted was (closing_puts open_now m ++ puts_at m (map off_sign voices)) h both
-offs-halted was mid open_now m voices was_left left v sign h k first second both joined o e f w =
-    let all : closing_puts open_now m ++ puts_at m (map off_sign voices) ≡
-        ((closing_puts open_now m ++ puts_at m (map off_sign o.done)) ++ puts_at m (off_sign v ∷ []))
-        ++ puts_at m (map off_sign left)
-    = ap (λ vs. closing_puts open_now m ++ puts_at m (map off_sign vs))
+pub offs-halted : (was mid : LineTape) (m : ℕ) (voices was_left left : List Voice) (v : Voice) (sign : Sign)
+    (h k : List ℕ) (first second both : List ℕ → Type 0) → ((x y : List ℕ) → first x → second y → both (x ++ y)) →
+    Offs was mid m voices was_left h k first → was_left ≡ v ∷ left → sign ≡ off_sign v →
+    LineHalted mid (puts_at m (sign ∷ [])) k second → LineHalted was (puts_at m (map off_sign voices)) h both
+offs-halted was mid m voices was_left left v sign h k first second both joined o e f w =
+    let all : puts_at m (map off_sign voices) ≡
+        (puts_at m (map off_sign o.done) ++ puts_at m (off_sign v ∷ [])) ++ puts_at m (map off_sign left)
+    = ap (λ vs. puts_at m (map off_sign vs))
       (o.split ∙ (ap (λ vs. o.done ++ vs) e ∙ sym (append_assoc o.done (v ∷ []) left)))
-      ∙ (ap (λ ps. closing_puts open_now m ++ ps)
-      (ap (puts_at m) (map-append off_sign (o.done ++ v ∷ []) left)
-      ∙ puts_at-append m (map off_sign (o.done ++ v ∷ [])) (map off_sign left))
-      ∙ (sym (append_assoc (closing_puts open_now m) (puts_at m (map off_sign (o.done ++ v ∷ [])))
-      (puts_at m (map off_sign left)))
-      ∙ ap (λ ps. ps ++ puts_at m (map off_sign left)) (off-more open_now m o.done v))) in
+      ∙ (ap (puts_at m) (map-append off_sign (o.done ++ v ∷ []) left)
+      ∙ (puts_at-append m (map off_sign (o.done ++ v ∷ [])) (map off_sign left)
+      ∙ ap (λ ps. ps ++ puts_at m (map off_sign left)) (off-more m o.done v))) in
     subst (λ (ps : List Put). LineHalted was ps h both) (sym all)
-    (halted-within was ((closing_puts open_now m ++ puts_at m (map off_sign o.done)) ++ puts_at m (off_sign v ∷ []))
-    (puts_at m (map off_sign left)) h both
-    (halted-then was mid (closing_puts open_now m ++ puts_at m (map off_sign o.done)) (puts_at m (off_sign v ∷ [])) h k
-    first second both joined o.wrote
-    (subst (λ (z : Sign). LineHalted mid (puts_at m (z ∷ [])) k second) f w)))
+    (halted-within was (puts_at m (map off_sign o.done) ++ puts_at m (off_sign v ∷ [])) (puts_at m (map off_sign left))
+    h both
+    (halted-then was mid (puts_at m (map off_sign o.done)) (puts_at m (off_sign v ∷ [])) h k first second both joined
+    o.wrote (subst (λ (z : Sign). LineHalted mid (puts_at m (z ∷ [])) k second) f w)))
 
-pub offs-all : (was now : LineTape) (open_now : Bool) (m : ℕ) (voices left : List Voice) (h k : List ℕ)
-    (took : List ℕ → Type 0) → left ≡ [] → Offs was now open_now m voices left h k took →
-    LineWrote was now (closing_puts open_now m ++ puts_at m (map off_sign voices)) h k took
-offs-all was now open_now m voices left h k took none o =
-    subst (λ (vs : List Voice). LineWrote was now (closing_puts open_now m ++ puts_at m (map off_sign vs)) h k took)
+pub offs-all : (was now : LineTape) (m : ℕ) (voices left : List Voice) (h k : List ℕ) (took : List ℕ → Type 0) →
+    left ≡ [] → Offs was now m voices left h k took → LineWrote was now (puts_at m (map off_sign voices)) h k took
+offs-all was now m voices left h k took none o =
+    subst (λ (vs : List Voice). LineWrote was now (puts_at m (map off_sign vs)) h k took)
     (sym (o.split ∙ (ap (λ vs. o.done ++ vs) none ∙ append-nil o.done))) o.wrote
 
 -- the Note Off that the guard answers is that of the voice

@@ -1,7 +1,9 @@
 pub mod LineLemmas
 pub mod GuardLemmas
+pub mod FilterLemmas
 pub mod EndLemmas
 pub mod FeedLemmas
 pub mod RecordedLemmas
 pub mod RisingLemmas
 pub mod CarriedLemmas
+pub mod FilteredLemmas

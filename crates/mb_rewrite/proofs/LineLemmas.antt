@@ -1,7 +1,8 @@
 -- Marks behind marks as a byte line's tape.
 use Rattle.std.proofs.Common.{◌≡◌, ℕ, Bool, true, false, List, [], ◌∷◌, ◌++◌, map, length, refl, sym, ◌∙◌, ap, subst}
 use Rattle.std.proofs.Common.{append_assoc, append-nil}
-use Rattle.std.specs.Prelude.{flat_map}
+use Rattle.std.specs.Prelude.{flat_map, if◌then◌else◌}
+use Rattle.std.proofs.lemmas.Bool.{false≢true}
 use Rattle.std.proofs.lemmas.List.{append_cancel_left, map-append}
 use Rattle.std.proofs.lemmas.List.Concat.{flat_map-append}
 use Rattle.mb_message.specs.Front.{IsFront, IsPart}
@@ -16,10 +17,14 @@ use Rattle.mb_din.specs.Writer as din
 use Rattle.mb_din.specs.Written.{din_spelled, din_written, stream_written}
 use Rattle.std.specs.Prelude.{Result, Ok, Err, OnOk}
 use Rattle.mb_frames.specs.Gathered.{TimedByte, gathered}
-use Rattle.mb_frames.specs.Gathering.{Piece, ended_by, no_piece, with_byte}
+use Rattle.mb_frames.specs.Gathering.{Piece, after_magic, ended_by, no_piece, with_byte}
+use Rattle.mb_frames.specs.Tapes.{magic}
 use Rattle.mb_outside.specs.TakingLaws.{part-within, part-behind}
 use Rattle.mb_held.specs.Held.{Holds}
 use Rattle.mb_held.proofs.HeldLemmas.{Fronted, fronted-then, fronted-within, holds-more, holds-then}
+use Rattle.mb_carrier.specs.declared.spec.Spec.{Spec}
+use Rattle.mb_track.specs.Track.{track_marks_so_far}
+use Rattle.mb_rewrite.specs.Rewriting.{is_begun, made_so_far}
 use Rattle.mb_rewrite.specs.LineTape.{byte_at, ended_from, line_beyond, line_ended, piece_after, timed_behind}
 use Rattle.mb_rewrite.specs.LineTape.{timed_bytes}
 use Rattle.mb_rewrite.specs.Line.{LineHalted, LineStands, LineWrote}
@@ -345,3 +350,35 @@ pub suits-behind : (now was : Bool) (rest xs ys : List ℕ) → now ≡ was → 
 suits-behind now was rest xs ys e f h =
     subst (λ (z : Bool). list_all (suits_sign z) (map ByteSign ys) ≡ true) (sym e)
     (all-behind (suits_sign was) xs ys (ap (λ zs. list_all (suits_sign was) (map ByteSign zs)) (sym f) ∙ h))
+
+-- the magic is there from the first byte on
+
+pub begun-stands : (was now : LineTape) (puts : List Put) → now.writer ≡ was.writer → now.gather ≡ was.gather →
+    LineStands was puts → LineStands now puts
+begun-stands was now puts e f st = record {
+  running = ap (λ w. w.running) e ∙ st.running;
+  writes = subst (λ w. din.Stands w (signs_in puts)) (sym e) st.writes;
+  gathers = f ∙ st.gathers;
+}
+
+pub live-begun : (made : List Put → List Put) (s : Spec) (bytes : List ℕ) (begun : Bool) → made [] ≡ [] →
+    begun ≡ is_begun bytes →
+    made_so_far made s bytes ++ (if begun then [] else magic true) ≡
+    after_magic (line_ended (made (track_marks_so_far s 0 bytes)))
+live-begun made s [] false none e = ap (λ ps. after_magic (line_ended ps)) (sym none)
+live-begun made s [] true none e = absurd (false≢true (sym e))
+live-begun made s (b ∷ bs) true none e = append-nil (after_magic (line_ended (made (track_marks_so_far s 0 (b ∷ bs)))))
+live-begun made s (b ∷ bs) false none e = absurd (false≢true e)
+
+-- a front of what is ended stands behind what was handed on before
+pub halted-part : (live held front : List ℕ) (puts more : List Put) (tape : List ℕ) →
+    live ++ held ≡ after_magic (line_ended puts) → IsFront (after_magic (line_ended (puts ++ more))) tape →
+    IsPart front (held ++ line_beyond puts more) → IsPart (live ++ front) tape
+halted-part live held front puts more tape base whole part =
+    part-within (live ++ front) (live ++ (held ++ line_beyond puts more)) tape
+    (part-behind live front (held ++ line_beyond puts more) part)
+    (subst (λ (bs : List ℕ). IsFront bs tape)
+    (sym (sym (append_assoc live held (line_beyond puts more))
+    ∙ (ap (λ bs. bs ++ line_beyond puts more) base
+    ∙ (append_assoc (magic true) (line_ended puts) (line_beyond puts more)
+    ∙ ap after_magic (sym (ended-more puts more)))))) whole)

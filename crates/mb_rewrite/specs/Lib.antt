@@ -1,5 +1,8 @@
 pub mod LineTape
 pub mod Line
+pub mod Rewriting
 pub mod Guarded
 pub mod Guarding
 pub mod Recorded
+pub mod Filtered
+pub mod Filtering

@@ -4,7 +4,6 @@ ghost use Rattle.std.specs.Prelude.{◌≡◌, ℕ, ◌≤◌, ◌<◌, ◌^◌,
 ghost use Rattle.mb_message.specs.Signs.{Sign, signs_of_event, suits_event};
 ghost use Rattle.mb_stream.specs.Puts.{puts_at};
 ghost use Rattle.mb_outside.specs.Cause.{HasCause};
-ghost use Rattle.mb_outside.specs.Taking.{TookFront};
 ghost use Rattle.mb_guard.specs.Guard.{Stands};
 ghost use Rattle.mb_track.specs.Track.{track_whole};
 ghost use Rattle.mb_track.specs.TrackReading.{track_moment};
@@ -12,8 +11,9 @@ ghost use Rattle.mb_carrier.specs.Word.{IsSpec};
 ghost use Rattle.mb_rewrite.specs.Guarded.{guarded_so_far, guarded_tape};
 ghost use Rattle.mb_rewrite.specs.Line.{LineHalted, LineWrote};
 ghost use Rattle.mb_rewrite.specs.Guarding.{GuardingStands, RewriteHalted, Rewrote, RewroteEnd, guarding_cut};
-ghost use Rattle.mb_rewrite.specs.Guarding.{EndHalted, EndHeard, HasTold, closing_puts, ending_puts, guarding_spec};
+ghost use Rattle.mb_rewrite.specs.Guarding.{EndHalted, EndHeard, GuardHasTold, guarding_spec, off_puts};
 
+use crate::answer::hand_on;
 use crate::line::LineTape;
 use mb_carrier::Spec;
 use mb_frames::TapeFault;
@@ -136,7 +136,7 @@ impl Guarding {
     /// What the end of the recording makes known.
     fn hear_end<K: Out>(&mut self, held: &mut Buf, out: &mut K) -> Result<(), Refused>
         requires ready { K.ready out.old }
-        requires stands { (bytes : List ℕ) × HasTold self.old bytes }
+        requires stands { (bytes : List ℕ) × GuardHasTold self.old bytes }
         ensures ready { K.ready out.new }
         ensures cause { HasCause (K.refusals out.old) (K.refusals out.new) result }
         ensures sound { OnOk result (K.refusals out.new ≡ K.refusals out.old) }
@@ -152,50 +152,26 @@ impl Guarding {
         }
     }
 
-    /// A Note Off for each note that sounds, at the moment of the last record whose header stands whole. No reading leaves
-    /// a SysEx open at its end; where one were, it would be broken off first.
+    /// A Note Off for each note that sounds, at the moment of the last record whose header stands whole.
     fn end_notes<K: Out>(&mut self, held: &mut Buf, out: &mut K) -> Result<(), Refused>
         requires ready { K.ready out.old }
+        requires closed { self.old.line.writer.in_sysex ≡ false }
         ensures ready { K.ready out.new }
         ensures cause { HasCause (K.refusals out.old) (K.refusals out.new) result }
         ensures sound { OnOk result (K.refusals out.new ≡ K.refusals out.old) }
         ensures spec { guarding_spec self.new ≡ guarding_spec self.old }
-        ensures ok { OnOk result (LineWrote self.old.line self.new.line (ending_puts self.old) held.old.items
+        ensures ok { OnOk result (LineWrote self.old.line self.new.line (off_puts self.old) held.old.items
             held.new.items (λ given. K.took out.old given out.new)) }
-        ensures err { OnErr result (LineHalted self.old.line (ending_puts self.old) held.old.items
+        ensures err { OnErr result (LineHalted self.old.line (off_puts self.old) held.old.items
             (λ given. K.took out.old given out.new)) }
     {
         let moment = self.track.moment();
-        if let Err(refused) = self.break_off(moment, held, out) {
-            return Err(refused);
-        }
         'offs: while let Some(off) = self.guard.next_off() {
             if let Err(refused) = self.line.put(moment, Ev::Short(off), held, out) {
                 return Err(refused);
             }
         }
         Ok(())
-    }
-
-    /// Ends a SysEx that is open.
-    fn break_off<K: Out>(&mut self, moment: u64, held: &mut Buf, out: &mut K) -> Result<(), Refused>
-        requires ready { K.ready out.old }
-        ensures ready { K.ready out.new }
-        ensures cause { HasCause (K.refusals out.old) (K.refusals out.new) result }
-        ensures sound { OnOk result (K.refusals out.new ≡ K.refusals out.old) }
-        ensures same { (self.new.track ≡ self.old.track) × (self.new.guard ≡ self.old.guard) }
-        ensures closed { OnOk result (self.new.line.writer.in_sysex ≡ false) }
-        ensures ok { OnOk result (LineWrote self.old.line self.new.line
-            (closing_puts self.old.line.writer.in_sysex moment) held.old.items held.new.items
-            (λ given. K.took out.old given out.new)) }
-        ensures err { OnErr result (LineHalted self.old.line
-            (closing_puts self.old.line.writer.in_sysex moment) held.old.items
-            (λ given. K.took out.old given out.new)) }
-    {
-        if !self.line.in_sysex() {
-            return Ok(());
-        }
-        self.line.put(moment, Ev::Abort, held, out)
     }
 }
 
@@ -210,25 +186,5 @@ fn sound(guard: &mut Guard, ev: Ev<'_>)
         Ev::Open => {}
         Ev::End => {}
         Ev::Abort => {}
-    }
-}
-
-/// Hands on what is held, and answers the fault.
-fn hand_on<K: Out>(
-    fault: Option<TapeFault>,
-    held: &Buf,
-    out: &mut K,
-) -> Result<Option<TapeFault>, Refused>
-    requires { K.ready out.old }
-    ensures ready { K.ready out.new }
-    ensures cause { HasCause (K.refusals out.old) (K.refusals out.new) result }
-    ensures sound { OnOk result (K.refusals out.new ≡ K.refusals out.old) }
-    ensures fault { IfOk result (λ told. told ≡ fault) }
-    ensures took { OnOk result (K.took out.old held.now.items out.new) }
-    ensures front { OnErr result (TookFront K.took out.old out.new held.now.items) }
-{
-    match out.take(held.as_slice()) {
-        Ok(()) => Ok(fault),
-        Err(refused) => Err(refused),
     }
 }

@@ -59,13 +59,6 @@ impl LineTape {
         }
     }
 
-    /// Whether a SysEx is open.
-    pub(crate) fn in_sysex(&self) -> bool
-        ensures { result ≡ self.now.writer.in_sysex }
-    {
-        self.writer.in_sysex()
-    }
-
     /// Writes an event at a moment in microseconds: what it ends of the tape is held, or handed on where there is no
     /// room.
     pub(crate) fn put<K: Out>(

@@ -11,8 +11,8 @@ invariant-offs g l =
       sound : K.refusals l.out ≡ K.refusals l.fn.out;
       spec : guarding_spec l.self ≡ guarding_spec l.fn.self;
       closed : l.self.line.writer.in_sysex ≡ false;
-      offs : Offs l.fn.self.line l.self.line l.fn.self.line.writer.in_sysex l.moment l.fn.self.guard l.self.guard
-          l.fn.held.items l.held.items (λ given. K.took l.fn.out given l.out);
+      offs : Offs l.fn.self.line l.self.line l.moment l.fn.self.guard l.self.guard l.fn.held.items l.held.items
+          (λ given. K.took l.fn.out given l.out);
     }
 
 abbrev pub decreases-offs : goal.decreases-offs
