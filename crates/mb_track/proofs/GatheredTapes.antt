@@ -99,9 +99,15 @@ stretches-right last (t ∷ ts) are = by (stretches ts) (stretches-right t.momen
       AreStretches t.moment (s ∷ ss) →
       AreStretches last (if same then (record { moment = t.moment; bytes = t.byte ∷ s.bytes }) ∷ ss
       else alone t ∷ s ∷ ss)
-  one s ss true h st = (are.0, are.1, omega arith, subst (λ (m : ℕ). AreStretches m ss)
-      (sym (same-number t.moment s.moment h)) st.3)
+  one s ss true h st = (
+    are.0,
+    are.1,
+    omega arith,
+    subst (λ (m : ℕ). AreStretches m ss)
+        (sym (same-number t.moment s.moment h)) st.3,
+  )
   one s ss false h st = (are.0, are.1, omega arith, st)
+
   by : (ss : List Stretch) → AreStretches t.moment ss → AreStretches last (before t ss)
   by [] st = (are.0, are.1, omega arith, tt)
   by (s ∷ ss) st = one s ss (t.moment == s.moment) refl st
@@ -126,14 +132,14 @@ right-pieces last m q (b ∷ bs) rest rises near some fits are =
     (λ room. right-pieces last m (q ++ b ∷ []) bs rest rises near
     (omega (arith, length-append q (b ∷ []))) (omega (arith, room, length-append q (b ∷ []))) are)
     (right-pieces m m (b ∷ []) bs rest (omega arith) near (omega arith) (omega arith) are)
-    where
-      by : (room : Bool) → nat_lt (length q) 255 ≡ room →
-          (length q < 255 → AreRecords true last (map (piece_record m) (pieces_from (q ++ b ∷ []) bs) ++ rest)) →
-          AreRecords true m (map (piece_record m) (pieces_from (b ∷ []) bs) ++ rest) →
-          AreRecords true last (map (piece_record m)
-          (if room then pieces_from (q ++ b ∷ []) bs else q ∷ pieces_from (b ∷ []) bs) ++ rest)
-      by true h on new = on (grind (arith, nat_tests))
-      by false h on new = (right-piece last m q rises near some fits, new)
+  where
+    by : (room : Bool) → nat_lt (length q) 255 ≡ room →
+        (length q < 255 → AreRecords true last (map (piece_record m) (pieces_from (q ++ b ∷ []) bs) ++ rest)) →
+        AreRecords true m (map (piece_record m) (pieces_from (b ∷ []) bs) ++ rest) →
+        AreRecords true last (map (piece_record m)
+        (if room then pieces_from (q ++ b ∷ []) bs else q ∷ pieces_from (b ∷ []) bs) ++ rest)
+    by true h on new = on (grind (arith, nat_tests))
+    by false h on new = (right-piece last m q rises near some fits, new)
 
 right-stretch : (last m : ℕ) (bs : List ℕ) (rest : List Record) → last ≤ m → m < 2 ^ 64 → 0 < length bs →
     AreRecords true m rest → AreRecords true last (map (piece_record m) (pieces bs) ++ rest)

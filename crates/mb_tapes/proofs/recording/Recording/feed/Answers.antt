@@ -40,7 +40,7 @@ steps-preserved-in_default c = record {
       c.args.piece.now c.steps.rest.now c.next.new.input.now c.in-Ok-Some-Heard.ev c.steps.invariant.feeding
       c.next.ensures.spec c.next.ensures.track c.next.ensures.end
       (told-goes c.steps.self.track c.next.new.self c.steps.rest.now c.next.new.input.now
-    c.in-Ok-Some-Heard.is c.in-Ok-Some-Heard.field-0-is c.in-Ok-Some-Heard.field-0-0-is c.next.ensures.goes)
+      c.in-Ok-Some-Heard.is c.in-Ok-Some-Heard.field-0-is c.in-Ok-Some-Heard.field-0-0-is c.next.ensures.goes)
       c.in_default.ensures.writes c.in_default.ensures.short c.in_default.ensures.order);
 }
 
@@ -51,7 +51,7 @@ steps-preserved c = record {
       c.steps.rest.now c.next.new.input.now c.requires.stands.0 c.requires.stands.1 c.steps.invariant.feeding
       c.next.ensures.spec c.next.ensures.track c.next.ensures.end c.next.ensures.rises
       (told-goes c.steps.self.track c.next.new.self c.steps.rest.now c.next.new.input.now
-    c.in-Ok-Some-End.is c.in-Ok-Some-End.field-0-is c.in-Ok-Some-End.field-0-0-is c.next.ensures.goes);
+      c.in-Ok-Some-End.is c.in-Ok-Some-End.field-0-is c.in-Ok-Some-End.field-0-0-is c.next.ensures.goes);
 }
 
 pub steps-preserved-in-Ok-Some-Begin : goal.steps-preserved-in-Ok-Some-Begin
@@ -61,7 +61,7 @@ steps-preserved-in-Ok-Some-Begin c = record {
       c.steps.rest.now c.next.new.input.now c.requires.stands.0 c.requires.stands.1 c.steps.invariant.feeding
       c.next.ensures.spec c.next.ensures.track c.next.ensures.end c.next.ensures.rises
       (told-goes c.steps.self.track c.next.new.self c.steps.rest.now c.next.new.input.now
-    c.in-Ok-Some-Begin.is c.in-Ok-Some-Begin.field-0-is c.in-Ok-Some-Begin.field-0-0-is c.next.ensures.goes);
+      c.in-Ok-Some-Begin.is c.in-Ok-Some-Begin.field-0-is c.in-Ok-Some-Begin.field-0-0-is c.next.ensures.goes);
 }
 
 pub returns-in-Ok-None-clause-fed : goal.returns-in-Ok-None-clause-fed
