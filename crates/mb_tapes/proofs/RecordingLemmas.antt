@@ -18,10 +18,12 @@ use Rattle.mb_carrier.specs.Port.{ReaderStands}
 use Rattle.mb_carrier.proofs.PutLemmas.{puts_at-append}
 use Rattle.mb_carrier.proofs.ReadingLemmas.{puts-front}
 use Rattle.mb_track.specs.Track.{track_end, track_marks, track_marks_so_far}
+use Rattle.mb_track.specs.TrackReading.{signs_told, step_signs}
 use Rattle.mb_track.specs.TrackReading.{IfNoStep, TrackGoes, TrackStands, TrackTold, track_moment, track_of}
 use Rattle.mb_track.specs.TrackReading.{track_offset, track_spec}
 use Rattle.mb_track.specs.declared.track.TrackReader.{TrackReader}
 use Rattle.mb_track.specs.declared.track.TrackStep.{TrackStep}
+use Rattle.mb_track.proofs.StandLemmas.{goes-by}
 use Rattle.mb_track.proofs.FrontLemmas.{all-suit, told-front, told-suits}
 use Rattle.mb_tapes.specs.Recorded.{FirstLeftOut}
 use Rattle.mb_tapes.specs.Recording.{MayFollow, RecordedOn, RecordingStands, recording_spec}
@@ -54,7 +56,8 @@ follows-then was now xs ys writes f = record {
 
 -- what is left out
 
-pub left-out-more : (marks more : List Put) (full : SmfFull) → FirstLeftOut marks full → FirstLeftOut (marks ++ more) full
+pub left-out-more : (marks more : List Put) (full : SmfFull) → FirstLeftOut marks full →
+    FirstLeftOut (marks ++ more) full
 left-out-more marks more full f =
     let front = f.before ++ At f.moment f.mark ∷ [] in
     record {
@@ -244,8 +247,8 @@ feeding-heard was track now file file_now piece rest left e f spec of end goes w
     }
 
 -- a beginning or an end of a record
-pub feeding-passed : (was : Recording) (track now : TrackReader) (file : TrackWriting) (piece rest left bytes : List ℕ) →
-    RecordingStands was bytes → Feeding was track file piece rest → track_spec now ≡ track_spec track →
+pub feeding-passed : (was : Recording) (track now : TrackReader) (file : TrackWriting)
+    (piece rest left bytes : List ℕ) → RecordingStands was bytes → Feeding was track file piece rest → track_spec now ≡ track_spec track →
     track_of now ≡ track_of track → track_offset now + length left ≤ track_offset track + length rest →
     ((taken : List ℕ) (told : List Put) → TrackStands track taken rest told → track_moment track ≤ track_moment now) →
     TrackGoes track now rest left [] → Feeding was now file piece left
@@ -372,6 +375,12 @@ feeding-end was track now file piece rest left fault f spec of end rises over = 
   fault_is = λ bytes st.
       (feeding-over was track now file piece rest left fault f spec of end rises over bytes st).fault_is;
 }
+
+pub told-goes : (track now : TrackReader) (rest left : List ℕ) {r : Result (Option TrackStep) TapeFault}
+    {o : Option TrackStep} {t told : TrackStep} → r ≡ Ok o → o ≡ Some t → t ≡ told →
+    TrackGoes track now rest left (step_signs r) → TrackGoes track now rest left (signs_told (Some told))
+told-goes track now rest left {r} {o} {t} {told} e f g goes =
+    goes-by track now rest left (step_signs r) (signs_told (Some told)) (ap step_signs (e ∙ ap Ok (f ∙ ap Some g))) goes
 
 pub over-of : (o : Option TrackStep) (P : Type 0) → o ≡ None → IfNoStep (Ok o) P → P
 over-of None P e p = p

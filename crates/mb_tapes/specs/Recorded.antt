@@ -6,7 +6,7 @@
 --   CanBeRecorded s tape       there is one
 --   FirstLeftOut marks full    the first mark that no file can have behind those before it, and why
 --   first_moment events        the moment of a file's first event, and 0 where it has none
---   played_moment first m      when what has a moment is played again: a thousand microseconds for each millisecond, less
+--   played_moment first m      the moment of what is played again: a thousand microseconds for each millisecond, less
 --                              those of the first event
 use Rattle.std.specs.Prelude.{ℕ, ◌*◌, ◌-◌, ◌/◌, Err, List, [], ◌∷◌, ◌++◌}
 use Rattle.mb_message.specs.Front.{IsFront}

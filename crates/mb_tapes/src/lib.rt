@@ -1,8 +1,8 @@
 //! Standard MIDI Files as tapes, and tapes as files, piece by piece as they are read.
 //!
 //! `Playing` reads a file, and hands on a tape of the bytes that it gives, each at its moment (`specs/Played.antt`). It
-//! takes no memory: what waits is a record of the tape. `Recording` reads a tape, and hands on at its end a file of what
-//! its track 0 carries (`specs/Recorded.antt`), which stands in memory until then.
+//! takes no memory: what waits is a record of the tape. `Recording` reads a tape, and hands on at its end a file of
+//! what its track 0 carries (`specs/Recorded.antt`), which stands in memory until then.
 #![tactic(auto)]
 
 mod part;

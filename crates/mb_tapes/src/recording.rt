@@ -31,8 +31,8 @@ pub enum RecordingStop {
     Refused(Refused),
 }
 
-/// Records track 0 of a tape as a Standard MIDI File. The file's track stands in memory until the end, since a file tells
-/// the track's length before it.
+/// Records track 0 of a tape as a Standard MIDI File. The file's track stands in memory until the end, since a file
+/// tells the track's length before it.
 #[derive(Drop)]
 pub struct Recording {
     track: TrackReader,

@@ -2,8 +2,9 @@
 --
 --   AreTimed last ts           the moments of bytes don't fall, the first not below this one, and fit in eight bytes
 --   timed_marks s before ts    the marks that bytes make known one by one behind a recording, each at its byte's moment
-use Rattle.std.proofs.Common.{◌≡◌, ℕ, ◌≤◌, ◌<◌, ◌^◌, Bool, true, false, List, [], ◌∷◌, ◌++◌, length, map, flat_map, refl}
-use Rattle.std.proofs.Common.{sym, ◌∙◌, ap, ap₂, subst, arith, append_assoc, append-nil, length-append, Option, Some, None}
+use Rattle.std.proofs.Common.{◌≡◌, ℕ, ◌≤◌, ◌<◌, ◌^◌, Bool, true, false, List, [], ◌∷◌, ◌++◌, length, map, flat_map}
+use Rattle.std.proofs.Common.{refl, sym, ◌∙◌, ap, ap₂, subst, arith, append_assoc, append-nil, length-append}
+use Rattle.std.proofs.Common.{Option, Some, None}
 use Rattle.std.specs.Prelude.{◌==◌, nat_lt, if◌then◌else◌}
 use Rattle.std.proofs.lemmas.Bool.Decides.{nat_tests}
 use Rattle.std.proofs.lemmas.List.{map-append}
@@ -98,9 +99,15 @@ stretches-right last (t ∷ ts) are = by (stretches ts) (stretches-right t.momen
       AreStretches t.moment (s ∷ ss) →
       AreStretches last (if same then (record { moment = t.moment; bytes = t.byte ∷ s.bytes }) ∷ ss
       else alone t ∷ s ∷ ss)
-  one s ss true h st = (are.0, are.1, omega arith, subst (λ (m : ℕ). AreStretches m ss)
-      (sym (same-number t.moment s.moment h)) st.3)
+  one s ss true h st = (
+    are.0,
+    are.1,
+    omega arith,
+    subst (λ (m : ℕ). AreStretches m ss)
+        (sym (same-number t.moment s.moment h)) st.3,
+  )
   one s ss false h st = (are.0, are.1, omega arith, st)
+
   by : (ss : List Stretch) → AreStretches t.moment ss → AreStretches last (before t ss)
   by [] st = (are.0, are.1, omega arith, tt)
   by (s ∷ ss) st = one s ss (t.moment == s.moment) refl st
@@ -125,14 +132,14 @@ right-pieces last m q (b ∷ bs) rest rises near some fits are =
     (λ room. right-pieces last m (q ++ b ∷ []) bs rest rises near
     (omega (arith, length-append q (b ∷ []))) (omega (arith, room, length-append q (b ∷ []))) are)
     (right-pieces m m (b ∷ []) bs rest (omega arith) near (omega arith) (omega arith) are)
-    where
-      by : (room : Bool) → nat_lt (length q) 255 ≡ room →
-          (length q < 255 → AreRecords true last (map (piece_record m) (pieces_from (q ++ b ∷ []) bs) ++ rest)) →
-          AreRecords true m (map (piece_record m) (pieces_from (b ∷ []) bs) ++ rest) →
-          AreRecords true last (map (piece_record m)
-          (if room then pieces_from (q ++ b ∷ []) bs else q ∷ pieces_from (b ∷ []) bs) ++ rest)
-      by true h on new = on (grind (arith, nat_tests))
-      by false h on new = (right-piece last m q rises near some fits, new)
+  where
+    by : (room : Bool) → nat_lt (length q) 255 ≡ room →
+        (length q < 255 → AreRecords true last (map (piece_record m) (pieces_from (q ++ b ∷ []) bs) ++ rest)) →
+        AreRecords true m (map (piece_record m) (pieces_from (b ∷ []) bs) ++ rest) →
+        AreRecords true last (map (piece_record m)
+        (if room then pieces_from (q ++ b ∷ []) bs else q ∷ pieces_from (b ∷ []) bs) ++ rest)
+    by true h on new = on (grind (arith, nat_tests))
+    by false h on new = (right-piece last m q rises near some fits, new)
 
 right-stretch : (last m : ℕ) (bs : List ℕ) (rest : List Record) → last ≤ m → m < 2 ^ 64 → 0 < length bs →
     AreRecords true m rest → AreRecords true last (map (piece_record m) (pieces bs) ++ rest)

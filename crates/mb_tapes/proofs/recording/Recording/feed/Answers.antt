@@ -1,10 +1,7 @@
-use Rattle.std.proofs.Common.{[], ◌≡◌, None, Some, sym, ap, ◌∙◌, subst}
-use Rattle.std.specs.Prelude.{Ok}
-use Rattle.mb_track.specs.TrackReading.{step_signs}
+use Rattle.std.proofs.Common.{◌≡◌, None, Some, sym, subst}
 use Rattle.mb_track.specs.declared.track.TrackReader.{TrackReader}
-use Rattle.mb_track.proofs.StandLemmas.{goes-by}
 use Rattle.mb_tapes.proofs.RecordingLemmas.{Feeding, feeding-end, feeding-follows, feeding-full, feeding-heard}
-use Rattle.mb_tapes.proofs.RecordingLemmas.{feeding-order, feeding-passed, feeding-start, over-of}
+use Rattle.mb_tapes.proofs.RecordingLemmas.{feeding-order, feeding-passed, feeding-start, over-of, told-goes}
 use Rattle.mb_tapes.proofs.recording.Recording.feed.Goals as goal
 
 pub steps-init : goal.steps-init
@@ -17,8 +14,8 @@ put-requires-clause-follows c =
     feeding-follows c.args.self.now c.steps.self.track c.next.new.self c.steps.self.file c.args.piece.now
     c.steps.rest.now c.next.new.input.now c.requires.stands.0 c.in-Ok-Some-Heard.ev c.requires.stands.1
     c.steps.invariant.feeding
-    (goes-by c.steps.self.track c.next.new.self c.steps.rest.now c.next.new.input.now _ _
-    (ap step_signs (c.in-Ok-Some-Heard.is ∙ ap Ok (c.in-Ok-Some-Heard.field-0-is ∙ ap Some c.in-Ok-Some-Heard.field-0-0-is))) c.next.ensures.goes)
+    (told-goes c.steps.self.track c.next.new.self c.steps.rest.now c.next.new.input.now
+    c.in-Ok-Some-Heard.is c.in-Ok-Some-Heard.field-0-is c.in-Ok-Some-Heard.field-0-0-is c.next.ensures.goes)
 
 pub put-requires-clause-order : goal.put-requires-clause-order
 put-requires-clause-order c =
@@ -30,8 +27,8 @@ returns-in-Err-put-clause-full c = λ bytes st.
     feeding-full c.args.self.now c.steps.self.track c.next.new.self c.steps.self.file c.args.piece.now
     c.steps.rest.now c.next.new.input.now c.in-Ok-Some-Heard.ev c.in-Err-put.full
     c.steps.invariant.feeding c.next.ensures.spec c.next.ensures.track
-    (goes-by c.steps.self.track c.next.new.self c.steps.rest.now c.next.new.input.now _ _
-    (ap step_signs (c.in-Ok-Some-Heard.is ∙ ap Ok (c.in-Ok-Some-Heard.field-0-is ∙ ap Some c.in-Ok-Some-Heard.field-0-0-is))) c.next.ensures.goes)
+    (told-goes c.steps.self.track c.next.new.self c.steps.rest.now c.next.new.input.now
+    c.in-Ok-Some-Heard.is c.in-Ok-Some-Heard.field-0-is c.in-Ok-Some-Heard.field-0-0-is c.next.ensures.goes)
     c.in-Err-put.ensures.full bytes st
 
 pub steps-preserved-in_default : goal.steps-preserved-in_default
@@ -42,8 +39,8 @@ steps-preserved-in_default c = record {
       (feeding-heard c.args.self.now c.steps.self.track c.next.new.self c.steps.self.file c.put.new.self.file
       c.args.piece.now c.steps.rest.now c.next.new.input.now c.in-Ok-Some-Heard.ev c.steps.invariant.feeding
       c.next.ensures.spec c.next.ensures.track c.next.ensures.end
-      (goes-by c.steps.self.track c.next.new.self c.steps.rest.now c.next.new.input.now _ _
-      (ap step_signs (c.in-Ok-Some-Heard.is ∙ ap Ok (c.in-Ok-Some-Heard.field-0-is ∙ ap Some c.in-Ok-Some-Heard.field-0-0-is))) c.next.ensures.goes)
+      (told-goes c.steps.self.track c.next.new.self c.steps.rest.now c.next.new.input.now
+      c.in-Ok-Some-Heard.is c.in-Ok-Some-Heard.field-0-is c.in-Ok-Some-Heard.field-0-0-is c.next.ensures.goes)
       c.in_default.ensures.writes c.in_default.ensures.short c.in_default.ensures.order);
 }
 
@@ -53,8 +50,8 @@ steps-preserved c = record {
       feeding-passed c.args.self.now c.steps.self.track c.next.new.self c.steps.self.file c.args.piece.now
       c.steps.rest.now c.next.new.input.now c.requires.stands.0 c.requires.stands.1 c.steps.invariant.feeding
       c.next.ensures.spec c.next.ensures.track c.next.ensures.end c.next.ensures.rises
-      (goes-by c.steps.self.track c.next.new.self c.steps.rest.now c.next.new.input.now _ []
-      (ap step_signs (c.in-Ok-Some-End.is ∙ ap Ok (c.in-Ok-Some-End.field-0-is ∙ ap Some c.in-Ok-Some-End.field-0-0-is))) c.next.ensures.goes);
+      (told-goes c.steps.self.track c.next.new.self c.steps.rest.now c.next.new.input.now
+      c.in-Ok-Some-End.is c.in-Ok-Some-End.field-0-is c.in-Ok-Some-End.field-0-0-is c.next.ensures.goes);
 }
 
 pub steps-preserved-in-Ok-Some-Begin : goal.steps-preserved-in-Ok-Some-Begin
@@ -63,8 +60,8 @@ steps-preserved-in-Ok-Some-Begin c = record {
       feeding-passed c.args.self.now c.steps.self.track c.next.new.self c.steps.self.file c.args.piece.now
       c.steps.rest.now c.next.new.input.now c.requires.stands.0 c.requires.stands.1 c.steps.invariant.feeding
       c.next.ensures.spec c.next.ensures.track c.next.ensures.end c.next.ensures.rises
-      (goes-by c.steps.self.track c.next.new.self c.steps.rest.now c.next.new.input.now _ []
-      (ap step_signs (c.in-Ok-Some-Begin.is ∙ ap Ok (c.in-Ok-Some-Begin.field-0-is ∙ ap Some c.in-Ok-Some-Begin.field-0-0-is))) c.next.ensures.goes);
+      (told-goes c.steps.self.track c.next.new.self c.steps.rest.now c.next.new.input.now
+      c.in-Ok-Some-Begin.is c.in-Ok-Some-Begin.field-0-is c.in-Ok-Some-Begin.field-0-0-is c.next.ensures.goes);
 }
 
 pub returns-in-Ok-None-clause-fed : goal.returns-in-Ok-None-clause-fed
