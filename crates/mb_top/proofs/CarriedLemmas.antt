@@ -1,10 +1,15 @@
 -- What each answer says of a command that writes, also where it is stopped, all that the input so far gives.
-use Rattle.std.proofs.Common.{◌≡◌, ℕ, ◌<◌, ◌↔◌, ◌&&◌, Bool, true, false, List, refl, sym, ◌∙◌, ap, subst, arith}
+use Rattle.std.proofs.Common.{◌≡◌, ℕ, ◌<◌, ◌^◌, ◌↔◌, ◌&&◌, Bool, true, false, List, [], refl, sym, ◌∙◌, ap, subst, arith}
 use Rattle.std.specs.Prelude.{Option, Some, None, IsSome}
 use Rattle.mb_message.specs.Front.{IsFront}
 use Rattle.mb_outside.specs.Contents.{Contents}
 use Rattle.mb_frames.specs.Tapes.{tape_fault, tape_whole}
-use Rattle.mb_track.specs.Track.{recording, track_records, track_whole}
+use Rattle.mb_guard.specs.Sounding.{sounding}
+use Rattle.mb_track.specs.Track.{last_record_moment, recording, track_records, track_whole}
+use Rattle.mb_rewrite.specs.Guarded.{ended}
+use Rattle.mb_rewrite.specs.Recorded.{track_den}
+use Rattle.mb_rewrite.proofs.CarriedLemmas.{guarded-read, guarded-read-silent}
+use Rattle.mb_carrier.specs.declared.spec.Spec.TheVariants.{Din}
 use Rattle.mb_carrier.specs.Carrier.{whole}
 use Rattle.mb_carrier.specs.declared.spec.Spec.{Spec}
 use Rattle.mb_frames.specs.declared.tape.TapeFault.{TapeFault}
@@ -208,3 +213,16 @@ shows-none c input w sound (fault.File f) e = sound (fault.File f) e
 shows-none c input w sound fault.LongTrack e = w.no_left_out input full.Track e
 shows-none c input w sound (fault.LongGap was now) e = w.no_left_out input (full.Gap was now) e
 shows-none c input w sound fault.Memory e = w.no_want input e
+
+-- of a tape whose notes are ended
+
+pub notes-ended : (s : Spec) (left read written : List ℕ) (answer : ℕ) →
+    Carried (GuardingTape s) left read written answer → last_record_moment (track_records read) < 2 ^ 64 →
+    track_den Din 0 written ≡ ended (track_den s 0 read)
+notes-ended s left read written answer r early = ap (track_den Din 0) r.written_is ∙ guarded-read s read early
+
+pub notes-silent : (s : Spec) (left read written : List ℕ) (answer : ℕ) →
+    Carried (GuardingTape s) left read written answer → last_record_moment (track_records read) < 2 ^ 64 →
+    (sounding (track_den Din 0 written).items) ≡ []
+notes-silent s left read written answer r early =
+    ap (λ (tape : List ℕ). (sounding (track_den Din 0 tape).items)) r.written_is ∙ guarded-read-silent s read early

@@ -1,6 +1,6 @@
 -- What each answer says of a tape that is recorded.
-use Rattle.std.proofs.Common.{◌≡◌, ℕ, ◌<◌, ◌↔◌, ◌⊎◌, Bool, true, false, List, [], ◌++◌, refl, sym, ◌∙◌, ap, subst, arith}
-use Rattle.std.proofs.Common.{inl, inr}
+use Rattle.std.proofs.Common.{◌≡◌, ℕ, ◌<◌, ◌↔◌, ◌⊎◌, Bool, true, false, List, [], ◌++◌, length, refl, sym, ◌∙◌, ap, subst, arith}
+use Rattle.std.proofs.Common.{inl, inr, length-append}
 use Rattle.std.proofs.lemmas.List.{append-nil}
 use Rattle.std.specs.Prelude.{Option, None, Some, IsSome, map}
 use Rattle.mb_message.specs.Front.{IsFront}
@@ -9,6 +9,12 @@ use Rattle.mb_stream.specs.Denotation.{denotation}
 use Rattle.mb_stream.specs.Puts.{Put, signs_in}
 use Rattle.mb_frames.specs.Tapes.{tape_fault, tape_whole}
 use Rattle.mb_frames.specs.declared.tape.TapeFault.{TapeFault}
+use Rattle.mb_stream.specs.Reading.{signs_of}
+use Rattle.mb_din.specs.Recording.{din_reading}
+use Rattle.mb_smf.specs.Smf.{SmfRead, bare_bytes, smf}
+use Rattle.mb_smf.specs.SmfWritten.{smf_written}
+use Rattle.mb_smf.proofs.WrittenLaw.{written-read}
+use Rattle.mb_smf.proofs.WrittenMeaning.{written-means}
 use Rattle.mb_smf.specs.declared.writer.SmfFull.TheVariants as full
 use Rattle.mb_track.specs.Track.{track_marks, track_whole}
 use Rattle.mb_tapes.specs.Recorded.{CanBeRecorded, FirstLeftOut, recorded_file}
@@ -165,3 +171,52 @@ recorded-by words limit before after faults faults_now answer s m a =
     subst (RecordedBy s (before.left 0) (taken_off 0 before after) (added_to 1 before after)) (sym a.number)
     (by_status s limit (before.left 0) (taken_off 0 before after) (added_to 1 before after) a.tally a.status
     (a.did (RecordingTape s) m).ends)
+
+-- the file means what the marks mean
+pub file-means : (s : Spec) (left read written : List ℕ) (answer : ℕ) → RecordedAll s left read written answer →
+    denotation (signs_of (din_reading (bare_bytes (smf written).given))) ≡ denotation (signs_in (track_marks s 0 read))
+file-means s left read written answer r =
+    let is = r.written_is in
+    let can = r.can in
+    let puts = track_marks s 0 read in
+    ap (λ (bytes : List ℕ). denotation (signs_of (din_reading (bare_bytes (smf bytes).given))))
+    (is ∙ sym (append-nil (smf_written puts)))
+    ∙ (ap (λ (r : SmfRead). denotation (signs_of (din_reading (bare_bytes r.given)))) (written-read puts [] can)
+    ∙ written-means puts can)
+
+-- of a whole tape that no call failed on, it is 0, or there is no memory or no file
+abbrev pub Recorded : (answer : ℕ) → Type 0
+Recorded n = (n ≡ 0) ⊎ ((n ≡ 9) ⊎ ((n ≡ 11) ⊎ (n ≡ 12)))
+
+pub records-completes : (words : List (List ℕ)) (limit : ℕ) (before after : Contents) (reads writes : Type 0)
+    (status : Status) (s : Spec) →
+    Means words (RecordingTape s) → MayAnswerWords words status →
+    (status ≡ Stopped ReadFault → reads) → (status ≡ Stopped Refused → writes) → (reads → ⊥) → (writes → ⊥) →
+    length (before.left 0) < limit → track_whole s 0 (before.left 0) ≡ true →
+    ((input : List ℕ) (g : Fault) → IsFront input (before.left 0) → in_tape (tape_fault input) ≡ Some g → ⊥) →
+    RanWords words limit before after status → Recorded (code_of status)
+records-completes words limit before after reads writes Done s m may r f nr nw short is sound ran = inl refl
+records-completes words limit before after reads writes Noted s m may r f nr nw short is sound ran =
+    absurd ((ran.ends (RecordingTape s) m).2)
+records-completes words limit before after reads writes Usage s m may r f nr nw short is sound ran =
+    absurd (may.usage refl (RecordingTape s) m)
+records-completes words limit before after reads writes Cut s m may r f nr nw short is sound ran =
+    let ends = ran.ends (RecordingTape s) m in
+    absurd (wrong (sym is ∙ (ap (track_whole s 0) ((ends.0).all refl) ∙ ends.1)))
+records-completes words limit before after reads writes (Stopped ReadFault) s m may r f nr nw short is sound ran =
+    absurd (nr (r refl))
+records-completes words limit before after reads writes (Stopped Refused) s m may r f nr nw short is sound ran =
+    absurd (nw (f refl))
+records-completes words limit before after reads writes (Stopped TooLong) s m may r f nr nw short is sound ran =
+    absurd (omega (arith, short, (ran.ends (RecordingTape s) m).0, ap length (ran.front).1,
+    length-append ran.input (ran.front).0))
+records-completes words limit before after reads writes (Stopped (Faulty (fault.Tape g))) s m may r f nr nw short is
+    sound ran = absurd (sound ran.input (fault.Tape g) ran.front (ran.ends (RecordingTape s) m).2)
+records-completes words limit before after reads writes (Stopped (Faulty (fault.File g))) s m may r f nr nw short is
+    sound ran = absurd (sound ran.input (fault.File g) ran.front (ran.ends (RecordingTape s) m).2)
+records-completes words limit before after reads writes (Stopped (Faulty fault.LongTrack)) s m may r f nr nw short is
+    sound ran = inr (inr (inl refl))
+records-completes words limit before after reads writes (Stopped (Faulty (fault.LongGap was now))) s m may r f nr nw
+    short is sound ran = inr (inr (inr refl))
+records-completes words limit before after reads writes (Stopped (Faulty fault.Memory)) s m may r f nr nw short is
+    sound ran = inr (inl refl)

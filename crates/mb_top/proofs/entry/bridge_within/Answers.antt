@@ -1,4 +1,4 @@
-use Rattle.std.proofs.Common.{◌∙◌, ◌++◌, refl, sym, ap, subst, arith}
+use Rattle.std.proofs.Common.{ℕ, List, ◌∙◌, ◌++◌, refl, sym, ap, subst, arith}
 use Rattle.mb_carrier.specs.Carrier.{den, notes_of, whole}
 use Rattle.mb_carrier.proofs.ConversionLemmas.{through-means, through-clean, through-whole}
 use Rattle.mb_words.specs.Command.{Converting, Listing, Migrating, PlayingFile, GuardingTape, Selftesting}
@@ -13,8 +13,15 @@ use Rattle.mb_top.proofs.DistanceLemmas.{keeps_distances}
 use Rattle.mb_top.proofs.AnswerLemmas.{wants_memory, noted_alone, no_fault, tape_alone, file_alone, one-reads}
 use Rattle.mb_top.proofs.AnswerLemmas.{selftest-ends}
 use Rattle.mb_top.proofs.CarriedLemmas.{carried, carried-completes, carried-part, file-told, tape_fault-told, whole-tape}
-use Rattle.mb_top.proofs.CarriedLemmas.{shows-none, writes-all}
+use Rattle.mb_top.proofs.CarriedLemmas.{notes-ended, notes-silent, shows-none, writes-all}
 use Rattle.mb_top.proofs.PlayLemmas.{whole-sound_file}
+use Rattle.mb_top.proofs.RecordedLemmas.{Recorded, file-means, recorded-by, records-completes}
+use Rattle.mb_stream.specs.Denotation.{denotation}
+use Rattle.mb_stream.specs.Puts.{signs_in}
+use Rattle.mb_track.specs.Track.{track_marks}
+use Rattle.mb_tapes.specs.Played.{played}
+use Rattle.mb_tapes.proofs.PlayBackLaw.{played-means}
+use Rattle.mb_carrier.specs.declared.spec.Spec.TheVariants.{Din}
 use Rattle.mb_top.proofs.MigrationLemmas as tape
 use Rattle.mb_top.proofs.SoFarLemmas.{live_written, so_far-lacks, so_far-held, so_far-stays, so_far-ends, so_far-front}
 use Rattle.mb_top.proofs.entry.bridge_within.Goals as goal
@@ -191,6 +198,64 @@ pub returns-clause-guarded : goal.returns-clause-guarded
 returns-clause-guarded g c = λ s tells m other.
     (carried _ _ _ _ _ _ _ (GuardingTape s) (writes-all (GuardingTape s) refl) m other
     (returns-clause-contents g c tells)).written_is
+
+pub returns-clause-notes_ended : goal.returns-clause-notes_ended
+returns-clause-notes_ended g c = λ s tells m other early.
+    notes-ended s _ _ _ _
+    (carried _ _ _ _ _ _ _ (GuardingTape s) (writes-all (GuardingTape s) refl) m other
+    (returns-clause-contents g c tells)) early
+
+pub returns-clause-silent : goal.returns-clause-silent
+returns-clause-silent g c = λ s tells m other early.
+    notes-silent s _ _ _ _
+    (carried _ _ _ _ _ _ _ (GuardingTape s) (writes-all (GuardingTape s) refl) m other
+    (returns-clause-contents g c tells)) early
+
+pub returns-clause-recorded : goal.returns-clause-recorded
+returns-clause-recorded g c = λ s tells m all.
+    let r = (recorded-by _ _ _ _ _ _ _ s m (returns-clause-contents g c tells)).at_end all in (r.written_is, r.can)
+
+pub returns-clause-recorded_means : goal.returns-clause-recorded_means
+returns-clause-recorded_means g c = λ s tells m all.
+    file-means s _ _ _ _ ((recorded-by _ _ _ _ _ _ _ s m (returns-clause-contents g c tells)).at_end all)
+
+pub returns-clause-unrecorded : goal.returns-clause-unrecorded
+returns-clause-unrecorded g c = λ s tells m. (recorded-by _ _ _ _ _ _ _ s m (returns-clause-contents g c tells)).nothing
+
+pub returns-clause-recorded_part : goal.returns-clause-recorded_part
+returns-clause-recorded_part g c = λ s tells m. (recorded-by _ _ _ _ _ _ _ s m (returns-clause-contents g c tells)).part
+
+pub returns-clause-recorded_all : goal.returns-clause-recorded_all
+returns-clause-recorded_all g c = λ s tells m all.
+    let r = (recorded-by _ _ _ _ _ _ _ s m (returns-clause-contents g c tells)).at_end all in (r.all, r.sound, r.cut)
+
+pub returns-clause-bad_recording : goal.returns-clause-bad_recording
+returns-clause-bad_recording g c = λ s tells m. (recorded-by _ _ _ _ _ _ _ s m (returns-clause-contents g c tells)).bad
+
+pub returns-clause-long_track : goal.returns-clause-long_track
+returns-clause-long_track g c = λ s tells m. (recorded-by _ _ _ _ _ _ _ s m (returns-clause-contents g c tells)).long_track
+
+pub returns-clause-long_gap : goal.returns-clause-long_gap
+returns-clause-long_gap g c = λ s tells m. (recorded-by _ _ _ _ _ _ _ s m (returns-clause-contents g c tells)).long_gap
+
+pub returns-clause-plays_back : goal.returns-clause-plays_back
+returns-clause-plays_back g c = λ tells m other s tape can is.
+    ap (λ (bytes : List ℕ). denotation (signs_in (track_marks Din 0 bytes)))
+    (returns-clause-played g c tells m other ∙ ap played is)
+    ∙ played-means (track_marks s 0 tape) can
+
+pub returns-clause-records : goal.returns-clause-records
+returns-clause-records g c = λ s tells m unhindered short is_whole.
+    subst Recorded (sym c.code.ensures)
+    (records-completes _ _ _ _ _ _ c.run-status.result s m c.run-status.ensures.may
+    (λ e. (read_faults _ _ _ _ _ _ c.run-status.result _ c.code.ensures c.say.ensures.reads c.run-status.ensures.faults).0
+    (c.code.ensures ∙ ap code_of e))
+    (λ e. write_fault _ _ _ _ _ _ c.run-status.result _ c.code.ensures c.say.ensures.writes c.run-status.ensures.faults
+    (c.code.ensures ∙ ap code_of e))
+    unhindered.reading unhindered.writing short is_whole
+    (λ input told front. tape.whole-sound_tape _ input told
+    (whole-tape s ((g.D.Desk.contents c.args.desk.now).left 0) is_whole) front)
+    (c.run-status.ensures.ran tells))
 
 pub returns-clause-rewritten_part : goal.returns-clause-rewritten_part
 returns-clause-rewritten_part g c = λ command tells m all four.
