@@ -2,4 +2,5 @@ pub mod WordLemmas
 pub mod LineLemmas
 pub mod RigLemmas
 pub mod RightLemmas
+pub mod SupplyLemmas
 mod Examples

@@ -1,3 +1,5 @@
 pub mod RigText
 pub mod RigAnswer
 pub mod Right
+pub mod Supply
+pub mod PassingLine

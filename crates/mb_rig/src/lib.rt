@@ -4,7 +4,9 @@
 mod fault;
 mod line;
 mod name;
+mod report;
 mod rig;
+mod supply;
 
 pub use fault::{RigFault, Why};
 pub use name::{Name, Port};
