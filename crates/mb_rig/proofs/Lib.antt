@@ -3,4 +3,5 @@ pub mod LineLemmas
 pub mod RigLemmas
 pub mod RightLemmas
 pub mod SupplyLemmas
+pub mod OutletLemmas
 mod Examples

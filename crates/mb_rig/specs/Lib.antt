@@ -3,3 +3,5 @@ pub mod RigAnswer
 pub mod Right
 pub mod Supply
 pub mod PassingLine
+pub mod Outlet
+pub mod Heard

@@ -2,8 +2,10 @@
 #![tactic(auto)]
 
 mod fault;
+mod heard;
 mod line;
 mod name;
+mod outlet;
 mod report;
 mod rig;
 mod supply;
