@@ -4,4 +4,5 @@ pub mod RigLemmas
 pub mod RightLemmas
 pub mod SupplyLemmas
 pub mod OutletLemmas
+pub mod HeardLemmas
 mod Examples

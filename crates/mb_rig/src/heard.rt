@@ -59,7 +59,7 @@ pub(crate) fn hear(
 
 /// What a step is to a link: an end of a record is nothing.
 fn heard_of(step: TrackStep<'_>) -> Option<Heard>
-    requires { length (signs_told (Some step.entry)) ≤ 1 }
+    requires { length (signs_told (Some step)) ≤ 1 }
     ensures signs { signs_heard result ≡ signs_told (Some step.entry) }
     ensures began { BeganAs step.entry result }
 {
