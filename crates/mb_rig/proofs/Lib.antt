@@ -5,4 +5,5 @@ pub mod RightLemmas
 pub mod SupplyLemmas
 pub mod OutletLemmas
 pub mod HeardLemmas
+pub mod LinkLemmas
 mod Examples

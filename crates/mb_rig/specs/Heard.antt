@@ -3,7 +3,7 @@
 --   byte_in b, mark_signs m    a byte, a mark, if there is one, as a list
 --   signs_heard h, heard_signs answer    the mark of what is heard, if it is one; of an answer
 --   BeganAs step h             what is heard is a record that begins at the moment which the step tells
---   HeardAt moment answer      a record that begins tells this moment
+--   HeardAt moment h           a record that begins tells this moment
 --   IfNothing answer P         P of an answer in which nothing is heard
 --   heard_fault answer         the fault that an answer tells
 use Rattle.std.specs.Prelude.{◌≡◌, ℕ, List, [], ◌∷◌, Option, Some, None, Result, Ok, Err}
@@ -37,11 +37,10 @@ BeganAs s None = Unit {0}
 BeganAs s (Some (heard.Record moment)) = s ≡ step.Begin moment
 BeganAs s (Some (heard.Mark m)) = Unit {0}
 
-abbrev pub HeardAt : (moment : ℕ) → Result (Option Heard) TapeFault → Type 0
-HeardAt moment (Ok None) = Unit {0}
-HeardAt moment (Ok (Some (heard.Record m))) = m ≡ moment
-HeardAt moment (Ok (Some (heard.Mark m))) = Unit {0}
-HeardAt moment (Err f) = Unit {0}
+abbrev pub HeardAt : (moment : ℕ) → Option Heard → Type 0
+HeardAt moment None = Unit {0}
+HeardAt moment (Some (heard.Record m)) = m ≡ moment
+HeardAt moment (Some (heard.Mark m)) = Unit {0}
 
 abbrev pub IfNothing : Result (Option Heard) TapeFault → Type 0 → Type 0
 IfNothing (Ok None) P = P

@@ -5,3 +5,4 @@ pub mod Supply
 pub mod PassingLine
 pub mod Outlet
 pub mod Heard
+pub mod Link

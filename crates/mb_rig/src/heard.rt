@@ -1,6 +1,6 @@
 //! What a link hears of its tape, byte by byte.
 
-ghost use Rattle.std.specs.Prelude.{◌≡◌, ℕ, ◌+◌, ◌≤◌, ◌^◌, List, [], ◌++◌, length, Ok, Some, None};
+ghost use Rattle.std.specs.Prelude.{◌≡◌, ℕ, ◌+◌, ◌≤◌, ◌^◌, List, [], ◌++◌, length, Ok, Some, None, IfOk};
 ghost use Rattle.mb_stream.specs.Puts.{Put};
 ghost use Rattle.mb_frames.specs.Tapes.{tape_fault};
 ghost use Rattle.mb_message.specs.Signs.{signs_of_event};
@@ -34,7 +34,7 @@ pub(crate) fn hear(
     ensures spec { track_spec reader.new ≡ track_spec reader.old }
     ensures track { track_of reader.new ≡ track_of reader.old }
     ensures end { track_offset reader.new + length input.new.now ≤ track_offset reader.old + length input.old.now }
-    ensures begins { HeardAt (track_moment reader.new) result }
+    ensures begins { IfOk result (λ heard. HeardAt (track_moment reader.new) heard) }
     ensures goes { TrackGoes reader.old reader.new input.old.now input.new.now (heard_signs result) }
     ensures over { IfNothing result ((taken : List ℕ) (told : List Put) →
         TrackStands reader.old taken input.old.now told →
@@ -74,7 +74,7 @@ fn heard_of(step: TrackStep<'_>) -> Option<Heard>
 }
 
 /// The mark that an event of one mark at most is.
-fn mark_of(ev: Ev<'_>) -> Option<Mark>
+pub(crate) fn mark_of(ev: Ev<'_>) -> Option<Mark>
     requires { length (signs_of_event ev) ≤ 1 }
     ensures { mark_signs result ≡ signs_of_event ev.entry }
 {

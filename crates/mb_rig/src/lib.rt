@@ -4,6 +4,7 @@
 mod fault;
 mod heard;
 mod line;
+mod link;
 mod name;
 mod outlet;
 mod report;

@@ -1,7 +1,7 @@
 //! A handle to read, piece by piece, up to a limit.
 
-ghost use Rattle.std.specs.Prelude.{◌≡◌, ◌≢◌, ◌↔◌, ℕ, ◌+◌, ◌≤◌, ◌^◌, true, List, [], ◌++◌, drop, length, IsTrue, IfOk};
-ghost use Rattle.std.specs.Prelude.{IfErr, OnOk, OnErr};
+ghost use Rattle.std.specs.Prelude.{◌≡◌, ◌≢◌, ◌↔◌, ℕ, ◌+◌, ◌≤◌, true, false, List, [], ◌++◌, drop, length, IsTrue, IfOk};
+ghost use Rattle.std.specs.Prelude.{IfErr, OnOk, OnErr, Ok};
 ghost use Rattle.mb_outside.specs.Cause.{HasCause};
 ghost use Rattle.mb_outside.specs.Contents.{is_readable};
 ghost use Rattle.mb_rig.specs.Supply.{Drew, DryBy, front_of};
@@ -73,6 +73,13 @@ impl Supply {
         &self.buffer[self.at..end]
     }
 
+    /// Whether all that was taken is handed out.
+    pub(crate) fn is_used(&self) -> bool
+        ensures { IsTrue result ↔ (self.now.ahead ≡ []) }
+    {
+        self.at == self.end
+    }
+
     /// So many bytes of the front are handed out.
     pub(crate) fn pass(&mut self, many: usize)
         requires { many ≤ length (front_of self.old) }
@@ -92,6 +99,7 @@ impl Supply {
         ensures drew { OnOk result (IsTrue D.tells →
             Drew self.old.handle (D.contents desk.old) self.new.ahead (D.contents desk.new)) }
         ensures more { IfOk result (λ more. IsTrue more ↔ (self.new.ahead ≢ [])) }
+        ensures none { result ≡ Ok false → self.new.ahead ≡ [] }
         ensures dry { IfErr result
             (DryBy (D.read_faults desk.old) (D.read_faults desk.new) self.old.count self.old.limit) }
         ensures err { OnErr result ((self.new.ahead ≡ []) × (IsTrue D.tells → D.contents desk.new ≡ D.contents desk.old)) }
