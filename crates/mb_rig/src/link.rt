@@ -40,6 +40,25 @@ pub(crate) struct Link {
 }
 
 impl Link {
+    /// A link to a tape at a handle to read, of which nothing was taken; of it at most `limit` bytes are taken.
+    pub(crate) fn new(handle: u32, limit: u64, spec: Spec, track: u8) -> Link
+        requires spec { IsSpec spec }
+        requires most { limit ≤ 2 ^ 40 }
+        ensures handle { result.supply.handle ≡ handle }
+        ensures limit { result.supply.limit ≡ limit }
+        ensures spec { track_spec result.reader ≡ spec }
+        ensures track { track_of result.reader ≡ track }
+        ensures reading { result.over ≡ false }
+        ensures reads { LinkReads result [] [] }
+    {
+        Link {
+            supply: Supply::new(handle, limit),
+            reader: TrackReader::new(spec, track),
+            over: false,
+            cut: false,
+        }
+    }
+
     /// What is heard next: a record that begins, of whatever track, or a mark of the port, whose moment is that of the
     /// last record. `None` comes at the tape's end, behind what only that makes known, and from then on.
     pub(crate) fn next<D: Desk>(&mut self, desk: &mut D) -> Result<Option<Heard>, LinkStop>
