@@ -6,4 +6,5 @@ pub mod SupplyLemmas
 pub mod OutletLemmas
 pub mod HeardLemmas
 pub mod LinkLemmas
+pub mod OutsLemmas
 mod Examples

@@ -6,3 +6,4 @@ pub mod PassingLine
 pub mod Outlet
 pub mod Heard
 pub mod Link
+pub mod Outs

@@ -7,6 +7,7 @@ mod line;
 mod link;
 mod name;
 mod outlet;
+mod outs;
 mod report;
 mod rig;
 mod supply;
