@@ -7,4 +7,5 @@ pub mod OutletLemmas
 pub mod HeardLemmas
 pub mod LinkLemmas
 pub mod OutsLemmas
+pub mod FilesLemmas
 mod Examples

@@ -7,3 +7,4 @@ pub mod Outlet
 pub mod Heard
 pub mod Link
 pub mod Outs
+pub mod Turn

@@ -2,6 +2,7 @@
 #![tactic(auto)]
 
 mod fault;
+mod files;
 mod heard;
 mod line;
 mod link;
@@ -11,6 +12,7 @@ mod outs;
 mod report;
 mod rig;
 mod supply;
+mod turn;
 
 pub use fault::{RigFault, Why};
 pub use name::{Name, Port};

@@ -48,6 +48,7 @@ impl Link {
         ensures limit { result.supply.limit ≡ limit }
         ensures spec { track_spec result.reader ≡ spec }
         ensures track { track_of result.reader ≡ track }
+        ensures ahead { result.supply.ahead ≡ [] }
         ensures reading { result.over ≡ false }
         ensures reads { LinkReads result [] [] }
     {
