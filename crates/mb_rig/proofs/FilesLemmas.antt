@@ -1,5 +1,5 @@
 -- What a link is whose file was opened.
-use Rattle.std.proofs.Common.{◌≡◌, ◌≤◌, ◌^◌, ℕ, Bool, true, false, List, [], IsTrue, refl, ◌∙◌, ap, sym}
+use Rattle.std.proofs.Common.{◌≡◌, ◌≤◌, ◌^◌, ℕ, Bool, false, List, [], IsTrue, ◌∙◌, ap, sym}
 use Rattle.mb_outside.specs.Contents.{Contents, after_open, is_readable, next_handle}
 use Rattle.mb_outside.specs.ContentsLaws.{with_entry-here}
 use Rattle.mb_outside.proofs.HandleLemmas.{readable-opened}

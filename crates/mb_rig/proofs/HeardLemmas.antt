@@ -31,10 +31,9 @@ pub over-then : (a b c : TrackReader) (i j : List ℕ) (fault : Option TapeFault
 over-then a b c i j fault goes spec track over = λ taken told st.
     let f = goes taken told st in
     let all : (taken ++ f.bytes) ++ j ≡ taken ++ i =
-        append_assoc taken f.bytes j ∙ ap (λ xs. taken ++ xs) (sym f.front) in
+    append_assoc taken f.bytes j ∙ ap (λ xs. taken ++ xs) (sym f.front) in
     let o = over (taken ++ f.bytes) told
-        (subst (λ (ps : List Put). TrackStands b (taken ++ f.bytes) j ps) (append-nil told) f.stands) in
-    (
+    (subst (λ (ps : List Put). TrackStands b (taken ++ f.bytes) j ps) (append-nil told) f.stands) in (
       subst (TrackTold c) all o.0,
       o.1
           ∙ (ap (λ (s : Spec). track_marks_so_far s (track_of b) ((taken ++ f.bytes) ++ j)) spec

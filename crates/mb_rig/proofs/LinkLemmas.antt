@@ -22,8 +22,8 @@ use Rattle.mb_track.specs.TrackReading.{track_spec}
 use Rattle.mb_track.specs.declared.track.TrackReader.{TrackReader}
 use Rattle.mb_track.proofs.StandLemmas.{stands-more}
 use Rattle.mb_rig.specs.Heard.{IfNothing, heard_fault, heard_signs}
-use Rattle.mb_rig.specs.Supply.{Drew, IsLent, SupplyValue, front_of}
-use Rattle.mb_rig.specs.Link.{LinkEnds, LinkHeard, LinkReads, LinkRests, LinkStands, TookFrom}
+use Rattle.mb_rig.specs.Supply.{Drew, SupplyValue, front_of}
+use Rattle.mb_rig.specs.Link.{LinkHeard, LinkReads, LinkRests, LinkStands, TookFrom}
 use Rattle.mb_rig.specs.declared.heard.Heard.{Heard}
 use Rattle.mb_rig.specs.declared.link.Link.{Link}
 
@@ -67,17 +67,17 @@ pub hear-goes : (l m : Link) (front left : List ℕ) (signs : List Sign) (many :
     LinkHeard l m bytes (told ++ puts_at (track_moment m.reader) signs)
 hear-goes l m front left signs many is_front goes fewer count supply offset bytes told reads =
     let g = goes bytes told
-        (subst (λ (xs : List ℕ). TrackStands l.reader bytes xs told) (sym is_front) reads.stands) in
+    (subst (λ (xs : List ℕ). TrackStands l.reader bytes xs told) (sym is_front) reads.stands) in
     let more = g.bytes in
     let behind = drop 1 l.supply.ahead in
     let whole : l.supply.ahead ≡ more ++ (left ++ behind) =
-        sym (take-append-drop 1 l.supply.ahead)
-        ∙ (ap (λ xs. xs ++ behind) (sym is_front ∙ g.front) ∙ append_assoc more left behind) in
+    sym (take-append-drop 1 l.supply.ahead)
+    ∙ (ap (λ xs. xs ++ behind) (sym is_front ∙ g.front) ∙ append_assoc more left behind) in
     let taken : many ≡ length more = omega (arith, count, ap length g.front, length-append more left) in
     let rest : m.supply.ahead ≡ left ++ behind =
-        ap (λ (s : SupplyValue). s.ahead) supply
-        ∙ (ap (λ n. drop n l.supply.ahead) taken ∙ (ap (drop (length more)) whole
-        ∙ drop-front more (left ++ behind))) in
+    ap (λ (s : SupplyValue). s.ahead) supply
+    ∙ (ap (λ n. drop n l.supply.ahead) taken ∙ (ap (drop (length more)) whole
+    ∙ drop-front more (left ++ behind))) in
     let few : length left ≤ 1 = omega (arith, fewer, ap length is_front, front-few l.supply.ahead) in
     let all : l.supply.ahead ≡ more ++ m.supply.ahead = whole ∙ ap (λ xs. more ++ xs) (sym rest) in
     let same : m.supply.count ≡ l.supply.count = ap (λ (s : SupplyValue). s.count) supply in
@@ -86,11 +86,23 @@ hear-goes l m front left signs many is_front goes fewer count supply offset byte
       front = all;
       reads =
           record {
-            count = omega (arith, same, reads.count, ap length all, length-append more m.supply.ahead,
-                length-append bytes more);
+            count = omega (
+              arith,
+              same,
+              reads.count,
+              ap length all,
+              length-append more m.supply.ahead,
+              length-append bytes more,
+            );
             few = omega (arith, same, reads.few);
-            offset = omega (arith, offset, reads.offset, ap length g.front, length-append more left,
-                length-append bytes more);
+            offset = omega (
+              arith,
+              offset,
+              reads.offset,
+              ap length g.front,
+              length-append more left,
+              length-append bytes more,
+            );
             stands =
                 subst (λ (xs : List ℕ). TrackStands m.reader (bytes ++ more) (take 1 xs)
                 (told ++ puts_at (track_moment m.reader) signs)) (sym rest)
@@ -114,7 +126,7 @@ pub hear-rests : (l m : Link) (front : List ℕ) (fault : Option TapeFault) → 
     LinkRests m (bytes ++ front_of l.supply) told fault
 hear-rests l m front fault is_front spec track over bytes told reads =
     let o = over bytes told
-        (subst (λ (xs : List ℕ). TrackStands l.reader bytes xs told) (sym is_front) reads.stands) in
+    (subst (λ (xs : List ℕ). TrackStands l.reader bytes xs told) (sym is_front) reads.stands) in
     let all : bytes ++ front ≡ bytes ++ front_of l.supply = ap (λ xs. bytes ++ xs) is_front in
     record {
       tells_all = subst (TrackTold m.reader) all o.0;
@@ -253,7 +265,7 @@ link-ends tells contents l m e at next told last goes_on over handle limit none 
     let bytes = st.bytes ++ front_of l.supply in
     let r = rests st.bytes told (st.reads goes_on) in
     let all : l.supply.ahead ≡ front_of l.supply =
-        front ∙ (ap (λ xs. front_of l.supply ++ xs) used ∙ append-nil (front_of l.supply)) in
+    front ∙ (ap (λ xs. front_of l.supply ++ xs) used ∙ append-nil (front_of l.supply)) in
     record {
       bytes = bytes;
       lent = λ t. record {
@@ -300,8 +312,7 @@ pub link-faulty : {S : Type 0} (tells : Bool) (contents : S → Contents) (l m :
     IsTrue tells → (bytes : List ℕ) × IsFront bytes ((contents at).taken l.supply.handle)
     × (tape_fault bytes ≡ Some fault)
 link-faulty tells contents l m at told fault goes_on rests st t =
-    let bytes = st.bytes ++ front_of l.supply in
-    (
+    let bytes = st.bytes ++ front_of l.supply in (
       bytes,
       (
         drop 1 l.supply.ahead,
@@ -323,10 +334,16 @@ link-too_long tells contents l m at told goes_on used front count full limit res
     let bytes = st.bytes ++ front_of l.supply in
     let r = st.reads goes_on in
     let all : l.supply.ahead ≡ front_of l.supply =
-        front ∙ (ap (λ xs. front_of l.supply ++ xs) used ∙ append-nil (front_of l.supply)) in
-    let taken : (contents at).taken l.supply.handle ≡ bytes = (st.lent t).taken ∙ ap (λ xs. st.bytes ++ xs) all in
-    (
-      omega (arith, ap length (st.lent t).taken, length-append st.bytes l.supply.ahead, r.count,
-          count, full, limit),
+    front ∙ (ap (λ xs. front_of l.supply ++ xs) used ∙ append-nil (front_of l.supply)) in
+    let taken : (contents at).taken l.supply.handle ≡ bytes = (st.lent t).taken ∙ ap (λ xs. st.bytes ++ xs) all in (
+      omega (
+        arith,
+        ap length (st.lent t).taken,
+        length-append st.bytes l.supply.ahead,
+        r.count,
+        count,
+        full,
+        limit,
+      ),
       ap tape_fault taken ∙ (rests st.bytes told r).fault_is,
     )

@@ -14,7 +14,7 @@ pub gave_part : {S : Type 0} (tells : Bool) (contents : S → Contents) (read_fa
     OutletGavePart tells contents read_faults handle less more before after
 gave_part tells contents read_faults handle empty items piece less more before after appended none same part =
     let all : piece ≡ appended.wrote =
-        same ∙ (appended.grown ∙ ap (λ xs. xs ++ appended.wrote) none) in
+    same ∙ (appended.grown ∙ ap (λ xs. xs ++ appended.wrote) none) in
     record {
       given = part.0;
       part = subst (λ (xs : List ℕ). IsPart (less ++ part.0) xs)

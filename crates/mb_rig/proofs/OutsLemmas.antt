@@ -1,10 +1,10 @@
 -- The outs of a rig, one behind the other.
-use Rattle.std.proofs.Common.{◌≡◌, ◌≢◌, ◌<◌, ◌≤◌, ◌+◌, ℕ, Bool, true, false, List, [], ◌∷◌, ◌++◌, length, IsTrue, refl, sym, ◌∙◌}
+use Rattle.std.proofs.Common.{◌≡◌, ◌≢◌, ◌<◌, ◌≤◌, ◌+◌, ℕ, Bool, List, [], ◌∷◌, ◌++◌, length, IsTrue, refl, sym, ◌∙◌}
 use Rattle.std.proofs.Common.{ap, subst, arith}
 use Rattle.std.proofs.lemmas.Bool.Decides.{nat_tests}
 use Rattle.mb_message.specs.declared.mark.Mark.{Mark}
 use Rattle.mb_stream.specs.Puts.{Put, Flush}
-use Rattle.mb_outside.specs.Contents.{Contents, after_write, is_writable, with_entry}
+use Rattle.mb_outside.specs.Contents.{Contents, is_writable, with_entry}
 use Rattle.mb_outside.specs.Taking.{Wrote}
 use Rattle.mb_carrier.specs.Carrier.{written}
 use Rattle.mb_rig.specs.Outlet.{OutletStands, outlet_spec}
@@ -166,8 +166,7 @@ pub pass-behind : {S : Type 0} (tells : Bool) (contents : S → Contents) (read_
     AllSuit goes m outs →
     ((first : ℕ) × (putss : List (List Put)) × OutsStand tells contents first os mid putss) × AllSuit gs m os
 pass-behind tells contents read_faults goes gs g m outs os o at mid e f among st all =
-    let split = outs-split tells contents st.0 outs o os at st.1 e st.2 in
-    (
+    let split = outs-split tells contents st.0 outs o os at st.1 e st.2 in (
       (st.0 + 1, split.pss, outs-behind tells contents read_faults st.0 o os at mid st.1 among split),
       (suit-tail goes gs g m outs os o f e all).1,
     )
@@ -190,7 +189,7 @@ pass-step tells contents read_faults goes gs g put outs os news o new at mid nex
     let split = outs-split tells contents first outs o os at putss e st in
     let tail = outs-behind tells contents read_faults first o os at mid putss among split in
     let puts_are : pass_puts goes put putss ≡ put_where g put split.ps ∷ pass_puts gs put split.pss =
-        ap (λ (bs : List Bool). pass_puts bs put putss) f ∙ ap (pass_puts (g ∷ gs) put) split.whole in
+    ap (λ (bs : List Bool). pass_puts bs put putss) f ∙ ap (pass_puts (g ∷ gs) put) split.whole in
     subst (λ (pss : List (List Put)). OutsStand tells contents first (new ∷ news) next pss) (sym puts_are)
     (outs-step tells contents read_faults first (length os) o new news (put_where g put split.ps)
     (pass_puts gs put split.pss) mid next same split.handle (step split.ps split.stands)

@@ -7,7 +7,7 @@
 --                          nothing else of the desk changed
 --   OutletGavePart ..      its handle got a beginning of that
 --   OutletEnded ..         its handle has all that the list is written as
-use Rattle.std.specs.Prelude.{◌≡◌, ℕ, Bool, true, List, [], ◌++◌, IsTrue}
+use Rattle.std.specs.Prelude.{◌≡◌, ℕ, Bool, true, List, ◌++◌, IsTrue}
 use Rattle.mb_message.specs.Front.{IsPart}
 use Rattle.mb_message.specs.declared.mark.Mark.{Mark}
 use Rattle.mb_message.specs.declared.mark.Mark.TheVariants as mark

@@ -24,10 +24,7 @@ pub(crate) enum Heard {
 }
 
 /// What is heard next of a byte or of none, which it takes. `None` comes exactly where all of it is heard.
-pub(crate) fn hear(
-    reader: &mut TrackReader,
-    input: &mut &[u8],
-) -> Result<Option<Heard>, TapeFault>
+pub(crate) fn hear(reader: &mut TrackReader, input: &mut &[u8]) -> Result<Option<Heard>, TapeFault>
     requires one { length input.old.now ≤ 1 }
     requires early { track_offset reader.old ≤ 2 ^ 50 }
     requires stands { (taken : List ℕ) × (told : List Put) × TrackStands reader.old taken input.old.now told }

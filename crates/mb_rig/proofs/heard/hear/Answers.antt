@@ -1,4 +1,4 @@
-use Rattle.std.proofs.Common.{◌≡◌, List, [], Ok, Some, None, refl, sym, ◌∙◌, ap, arith}
+use Rattle.std.proofs.Common.{[], Ok, Some, None, refl, sym, ◌∙◌, ap, arith}
 use Rattle.mb_track.specs.TrackReading.{TrackGoes, step_signs}
 use Rattle.mb_track.proofs.StandLemmas.{gone-none, gone-then, goes-by}
 use Rattle.mb_rig.specs.Heard.{signs_heard}

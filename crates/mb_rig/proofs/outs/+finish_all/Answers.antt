@@ -7,8 +7,8 @@ pub finish_all-requires : goal.finish_all-requires
 finish_all-requires g t c κs within =
     let D = g.D.Desk in
     let r = flush-behind D.tells D.contents D.read_faults c.args.outs.now c.in-Some.outs_behind.now
-        c.in-Some.out.now c.args.desk.now c.finish.new.desk c.in-Some.ensures.cases.0 c.finish.ensures.among
-        c.requires in
+    c.in-Some.out.now c.args.desk.now c.finish.new.desk c.in-Some.ensures.cases.0 c.finish.ensures.among
+    c.requires in
     (search rules, (within, r))
 
 pub returns-clause-ended : goal.returns-clause-ended

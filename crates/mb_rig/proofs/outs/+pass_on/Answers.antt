@@ -7,9 +7,9 @@ pub pass_on-requires : goal.pass_on-requires
 pass_on-requires g t c κs within =
     let D = g.D.Desk in
     let r = pass-behind D.tells D.contents D.read_faults c.args.goes.now c.in-Some-split_first.goes_behind.now
-        c.in-Some-split_first.here.now c.args.mark c.args.outs.now c.in-Some.outs_behind.now c.in-Some.out.now
-        c.args.desk.now c.pass_to.new.desk c.in-Some.ensures.cases.0 c.in-Some-split_first.ensures.cases.0
-        c.pass_to.ensures.among c.requires.stand c.requires.suits in
+    c.in-Some-split_first.here.now c.args.mark c.args.outs.now c.in-Some.outs_behind.now c.in-Some.out.now
+    c.args.desk.now c.pass_to.new.desk c.in-Some.ensures.cases.0 c.in-Some-split_first.ensures.cases.0
+    c.pass_to.ensures.among c.requires.stand c.requires.suits in
     (search rules, (within, (r.0, r.1)))
 
 pub returns-clause-stand : goal.returns-clause-stand

@@ -1,7 +1,7 @@
-use Rattle.std.proofs.Common.{◌≡◌, ◌++◌, List, [], ℕ, Ok, Some, None, IsTrue, refl, sym, ◌∙◌, ap, subst, length}
+use Rattle.std.proofs.Common.{◌≡◌, ◌++◌, List, [], ℕ, Ok, Some, refl, sym, ◌∙◌, ap, subst, length}
 use Rattle.mb_message.specs.Signs.{Sign}
 use Rattle.mb_message.specs.Front.{IsFront}
-use Rattle.mb_stream.specs.Puts.{Put, puts_at}
+use Rattle.mb_stream.specs.Puts.{puts_at}
 use Rattle.mb_outside.specs.Contents.{Contents}
 use Rattle.mb_frames.specs.Tapes.{tape_fault}
 use Rattle.mb_track.specs.TrackReading.{track_moment}
@@ -42,8 +42,7 @@ returns-in-Ok-Some-clause-told g c = λ told st.
 
 pub returns-in-Err-clause-stops : goal.returns-in-Err-clause-stops
 returns-in-Err-clause-stops g c = λ told st t.
-    let D = g.D.Desk in
-    (
+    let D = g.D.Desk in (
       subst (λ (h : ℕ). (bytes : List ℕ) × IsFront bytes ((D.contents c.bytes.desk).taken h)
           × (tape_fault bytes ≡ Some c.in-Err.fault)) c.bytes.invariant.handle
           (link-faulty D.tells D.contents c.bytes.self c.hear.new.self c.bytes.desk told c.in-Err.fault
@@ -101,7 +100,7 @@ pub end-requires : goal.end-requires
 end-requires g c =
     let st = c.bytes.invariant.told c.requires.stands.0 c.requires.stands.1 in
     let r = rests-none c.bytes.self c.hear.new.self c.hear.result (c.in-Ok-None.is ∙ ap Ok c.in-Ok-None.field-0-is)
-        c.hear.ensures.rests st.bytes c.requires.stands.0 (st.reads c.bytes.invariant.reading) in
+    c.hear.ensures.rests st.bytes c.requires.stands.0 (st.reads c.bytes.invariant.reading) in
     (_, r.tells_all)
 
 pub returns-in-Ok-false-clause-told : goal.returns-in-Ok-false-clause-told
@@ -110,7 +109,7 @@ returns-in-Ok-false-clause-told g c = λ told st.
     let i = c.bytes.invariant in
     let e = c.in-Ok-None.is ∙ ap Ok c.in-Ok-None.field-0-is in
     let none : c.read_on.new.self.ahead ≡ [] =
-        c.read_on.ensures.none (c.in-Ok-false.is ∙ ap Ok c.in-Ok-false.field-0-test) in
+    c.read_on.ensures.none (c.in-Ok-false.is ∙ ap Ok c.in-Ok-false.field-0-test) in
     link-ends D.tells D.contents c.bytes.self c.hear.new.self c.end.new.self c.bytes.desk c.read_on.new.desk told _
     i.reading c.end.ensures.over
     (ap (λ (s : SupplyValue). s.handle) c.end.ensures.supply ∙ (c.read_on.ensures.handle ∙ c.hear.ensures.handle))
@@ -131,10 +130,9 @@ returns-in-Err-TooLong-clause-stops g c = λ told st t.
     let same = c.in-Err-TooLong.ensures.err.1 t in
     let handle = c.args.self.now.supply.handle in
     let p = link-too_long D.tells D.contents c.bytes.self c.hear.new.self c.bytes.desk told i.reading
-        (c.is_used.ensures.0 c.if-is_used.true) (c.hear.ensures.used e) c.hear.ensures.count dry.0
-        c.hear.ensures.limit (rests-none c.bytes.self c.hear.new.self c.hear.result e c.hear.ensures.rests)
-        (i.told told st) t in
-    (
+    (c.is_used.ensures.0 c.if-is_used.true) (c.hear.ensures.used e) c.hear.ensures.count dry.0
+    c.hear.ensures.limit (rests-none c.bytes.self c.hear.new.self c.hear.result e c.hear.ensures.rests)
+    (i.told told st) t in (
       ap (λ (z : Contents). length (z.taken handle)) same
           ∙ (ap (λ (h : ℕ). length ((D.contents c.bytes.desk).taken h)) (sym i.handle) ∙ (p.0 ∙ i.limit)),
       ap (λ (z : Contents). tape_fault (z.taken handle)) same

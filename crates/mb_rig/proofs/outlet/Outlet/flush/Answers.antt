@@ -1,4 +1,4 @@
-use Rattle.std.proofs.Common.{◌∙◌, ap, arith, length}
+use Rattle.std.proofs.Common.{ap, arith, length}
 use Rattle.std.proofs.lemmas.Result.{on_err_weaker}
 use Rattle.mb_rig.proofs.OutletLemmas.{gave_part}
 use Rattle.mb_rig.proofs.outlet.Outlet.flush.Goals as goal
