@@ -2,3 +2,10 @@ pub mod RigText
 pub mod RigAnswer
 pub mod Right
 pub mod Merging
+pub mod Supply
+pub mod PassingLine
+pub mod Outlet
+pub mod Heard
+pub mod Link
+pub mod Outs
+pub mod Turn

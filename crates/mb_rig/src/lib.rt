@@ -2,9 +2,17 @@
 #![tactic(auto)]
 
 mod fault;
+mod files;
+mod heard;
 mod line;
+mod link;
 mod name;
+mod outlet;
+mod outs;
+mod report;
 mod rig;
+mod supply;
+mod turn;
 
 pub use fault::{RigFault, Why};
 pub use name::{Name, Port};

@@ -1,0 +1,14 @@
+use Rattle.std.proofs.Common.{refl}
+use Rattle.mb_rig.proofs.LinkLemmas.{hear-goes, hear-rests, nothing-weaker}
+use Rattle.mb_rig.proofs.link.Link.hear.Goals as goal
+
+pub returns-clause-goes : goal.returns-clause-goes
+returns-clause-goes c =
+    hear-goes c.args.self.now _ c.front-front.result.now c.hear-heard.new.input.now _ _ c.front-front.ensures
+    c.hear-heard.ensures.goes c.hear-heard.ensures.fewer refl c.pass.ensures c.hear-heard.ensures.end
+
+pub returns-clause-rests : goal.returns-clause-rests
+returns-clause-rests c =
+    nothing-weaker c.hear-heard.result _ _
+    (λ over. hear-rests c.args.self.now _ c.front-front.result.now _ c.front-front.ensures c.hear-heard.ensures.spec
+    c.hear-heard.ensures.track over) c.hear-heard.ensures.over
