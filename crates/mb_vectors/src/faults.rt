@@ -18,7 +18,7 @@ const NOTE_ON: &[u8] = &[0x90, 0x3c, 0x64];
 const NOTE_ON_PACKET: &[u8] = &[0x09, 0x90, 0x3c, 0x64];
 
 const USAGE: &str =
-    "usage: midibridge convert [tally] SPEC SPEC .. / trace SPEC / check SPEC / run RIGFILE / selftest START COUNT / migrate\n";
+    "usage: midibridge convert [tally] SPEC SPEC .. / trace SPEC / check SPEC / run RIGFILE / selftest START COUNT / migrate / record SPEC / play / guard SPEC / filter RULEFILE SPEC\n";
 
 /// What the row shows, which call of the desk is to fail, the room for what is written, the status, and what must stand
 /// on standard output and error.

@@ -20,6 +20,8 @@ mod listing;
 #[cfg(test)]
 mod ports;
 #[cfg(test)]
+mod rewriting;
+#[cfg(test)]
 mod row;
 #[cfg(test)]
 mod selftest;

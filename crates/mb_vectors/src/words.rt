@@ -23,6 +23,9 @@ fn command_of(rt: &impl Abort, alloc: Global, words: &[&str]) -> ArrayVec<u8, 64
         Ok(Command::Check(Spec::Fire(_))) => b"check of FireWire",
         Ok(Command::Check(Spec::Ble(20))) => b"check of BLE-MIDI",
         Ok(Command::Migrate) => b"migrate",
+        Ok(Command::RecordTape(Spec::Din)) => b"record",
+        Ok(Command::Play) => b"play",
+        Ok(Command::Guard(Spec::Usb(_))) => b"guard",
         Ok(
             Command::Selftest {
                 start: 2147483647,
@@ -51,6 +54,13 @@ const WORDS: &[(&[&str], &[u8])] = &[
     (&["convert", "tally"], b"none"),
     (&["migrate"], b"migrate"),
     (&["migrate", "din"], b"none"),
+    (&["record", "din"], b"record"),
+    (&["record"], b"none"),
+    (&["record", "din", "din"], b"none"),
+    (&["play"], b"play"),
+    (&["play", "din"], b"none"),
+    (&["guard", "usb:3"], b"guard"),
+    (&["guard", "usb:16"], b"none"),
     (&["selftest", "0", "0"], b"a self-test"),
     (
         &["selftest", "2147483647", "1000000"],
