@@ -39,8 +39,7 @@ tape-is puts = (Gathers-nothing).rest (timed_bytes puts) ∙ ap after_magic (gat
 
 pub tape-front : (puts more : List Put) → IsFront (after_magic (line_ended puts)) (line_tape (puts ++ more))
 tape-front puts more =
-    let rest = line_beyond puts more ++ waiting (puts ++ more) in
-    (
+    let rest = line_beyond puts more ++ waiting (puts ++ more) in (
       rest,
       tape-is (puts ++ more)
           ∙ ap after_magic (ap (λ bs. bs ++ waiting (puts ++ more)) (ended-more puts more)

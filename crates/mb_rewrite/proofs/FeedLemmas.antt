@@ -235,21 +235,21 @@ feeding-refused w keeps track now line piece rest left held signs first second b
           let made = w.made t.told ++ w.made more in
           let whole : ((bytes ++ t.taken) ++ gone.bytes) ++ left ≡ bytes ++ piece
           = append_assoc (bytes ++ t.taken) gone.bytes left ∙ (ap (λ xs. (bytes ++ t.taken) ++ xs) (sym gone.front)
-            ∙ (append_assoc bytes t.taken rest ∙ ap (λ xs. bytes ++ xs) (sym t.split))) in
+          ∙ (append_assoc bytes t.taken rest ∙ ap (λ xs. bytes ++ xs) (sym t.split))) in
           let marks : track_marks_so_far (track_spec now) now.track (((bytes ++ t.taken) ++ gone.bytes) ++ left) ≡
-              track_marks_so_far s 0 (bytes ++ piece)
+          track_marks_so_far s 0 (bytes ++ piece)
           = ap (track_marks_so_far (track_spec now) now.track) whole
-            ∙ (ap (λ z. track_marks_so_far z now.track (bytes ++ piece)) (spec ∙ f.spec)
-            ∙ ap (λ n. track_marks_so_far s n (bytes ++ piece)) (of ∙ (f.of_track ∙ (st.so_far).of_track))) in
+          ∙ (ap (λ z. track_marks_so_far z now.track (bytes ++ piece)) (spec ∙ f.spec)
+          ∙ ap (λ n. track_marks_so_far s n (bytes ++ piece)) (of ∙ (f.of_track ∙ (st.so_far).of_track))) in
           let front = front-of now ((bytes ++ t.taken) ++ gone.bytes) left (t.told ++ more) gone.stands in
           let made_all : w.made (track_marks_so_far s 0 (bytes ++ piece)) ≡ made ++ w.made front.0
           = ap w.made (sym marks ∙ front.1) ∙ (w.joins (t.told ++ more) front.0
-            ∙ ap (λ ps. ps ++ w.made front.0) (w.joins t.told more)) in
+          ∙ ap (λ ps. ps ++ w.made front.0) (w.joins t.told more)) in
           let all : live_of w (bytes ++ piece) ≡ after_magic (line_ended made) ++ line_beyond made (w.made front.0)
           = live-is w.made s bytes piece some
-            ∙ (ap (λ ps. after_magic (line_ended ps)) made_all
-            ∙ (ap after_magic (ended-more made (w.made front.0))
-            ∙ sym (append_assoc (magic true) (line_ended made) (line_beyond made (w.made front.0))))) in
+          ∙ (ap (λ ps. after_magic (line_ended ps)) made_all
+          ∙ (ap after_magic (ended-more made (w.made front.0))
+          ∙ sym (append_assoc (magic true) (line_ended made) (line_beyond made (w.made front.0))))) in
           subst (λ (bs : List ℕ). IsPart bs (live_of w (bytes ++ piece)))
           (append_assoc live holds.given halted.front)
           (halted-part (live ++ holds.given) held halted.front (w.made t.told) (w.made more) (live_of w (bytes ++ piece))
@@ -286,8 +286,8 @@ feeding-over w keeps track now line piece rest left held fault took some f spec 
     = append_assoc bytes t.taken rest ∙ ap (λ xs. bytes ++ xs) (sym t.split) in
     let marks : t.told ≡ track_marks_so_far s 0 (bytes ++ piece)
     = o.1 ∙ (ap (track_marks_so_far (track_spec track) (track_of track)) whole
-      ∙ (ap (λ z. track_marks_so_far z (track_of track) (bytes ++ piece)) f.spec
-      ∙ ap (λ n. track_marks_so_far s n (bytes ++ piece)) (f.of_track ∙ (st.so_far).of_track))) in
+    ∙ (ap (λ z. track_marks_so_far z (track_of track) (bytes ++ piece)) f.spec
+    ∙ ap (λ n. track_marks_so_far s n (bytes ++ piece)) (f.of_track ∙ (st.so_far).of_track))) in
     let now_marks : t.told ≡ track_marks_so_far (track_spec now) 0 (bytes ++ piece)
     = marks ∙ ap (λ z. track_marks_so_far z 0 (bytes ++ piece)) (sym (spec ∙ f.spec)) in
     record {
@@ -341,7 +341,7 @@ feeding-cut w keeps track now line piece rest left held fault first second both 
       part = λ bytes st.
           let live = live_of w bytes in
           let o = feeding-over w keeps track now line piece rest left held fault first some f spec of end over bytes
-            st in
+          st in
           subst (λ (bs : List ℕ). IsPart (live ++ (holds.given ++ t.0)) bs)
           (sym (o.beyond ∙ ap (λ bs. live ++ bs) (sym holds.all)))
           (part-behind live (holds.given ++ t.0) (holds.given ++ held) (part-behind holds.given t.0 held t.1));

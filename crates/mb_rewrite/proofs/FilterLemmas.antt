@@ -82,8 +82,8 @@ maps-behind m now e suits is marks behind =
     let open_now : m.in_sysex ≡ is_open marks = ap (λ (z : Mapping). z.in_sysex) behind in
     let more : is_open (marks ++ signs_of_event e) ≡ open_behind m.in_sysex e
     = is_open-append marks (signs_of_event e)
-      ∙ (ap (λ (o : Bool). open_from o (signs_of_event e)) (sym open_now)
-      ∙ open_from-event m.in_sysex e suits) in
+    ∙ (ap (λ (o : Bool). open_from o (signs_of_event e)) (sym open_now)
+    ∙ open_from-event m.in_sysex e suits) in
     is ∙ (ap (mapping m.rules) (sym more)
     ∙ ap (λ (rules : List Rule). mapping rules (is_open (marks ++ signs_of_event e)))
     (sym (ap (λ (z : Mapping). z.rules) is)))
@@ -128,7 +128,7 @@ end-suits f bytes e h is_end =
 
 end-is : (f : Filtering) (e : Ev) →
     ((bytes : List ℕ) → TrackTold f.track bytes →
-        puts_at (track_moment f.track) (signs_of_event e) ≡ track_end (track_spec f.track) (track_of f.track) bytes) →
+    puts_at (track_moment f.track) (signs_of_event e) ≡ track_end (track_spec f.track) (track_of f.track) bytes) →
     (bytes : List ℕ) → FilterHasTold f bytes →
     puts_at (track_moment f.track) (mapped_marks (filtering_rules f) (signs_of_event e)) ≡
     mapped_puts (filtering_rules f) (track_end (track_spec f.track) 0 bytes)
@@ -139,9 +139,9 @@ end-is f e is_end bytes h =
 
 pub end-heard : (f now : Filtering) (e : Ev) (held kept : List ℕ) (took : List ℕ → Type 0) →
     LineWrote f.line now.line (puts_at (track_moment f.track) (mapped_marks (filtering_rules f) (signs_of_event e))) held
-        kept took →
+    kept took →
     ((bytes : List ℕ) → TrackTold f.track bytes →
-        puts_at (track_moment f.track) (signs_of_event e) ≡ track_end (track_spec f.track) (track_of f.track) bytes) →
+    puts_at (track_moment f.track) (signs_of_event e) ≡ track_end (track_spec f.track) (track_of f.track) bytes) →
     FilterEndHeard f now held kept took
 end-heard f now e held kept took wrote is_end = record {
   more = puts_at (track_moment f.track) (mapped_marks (filtering_rules f) (signs_of_event e));
@@ -152,7 +152,7 @@ end-heard f now e held kept took wrote is_end = record {
 pub end-halted : (f : Filtering) (e : Ev) (held : List ℕ) (took : List ℕ → Type 0) →
     LineHalted f.line (puts_at (track_moment f.track) (mapped_marks (filtering_rules f) (signs_of_event e))) held took →
     ((bytes : List ℕ) → TrackTold f.track bytes →
-        puts_at (track_moment f.track) (signs_of_event e) ≡ track_end (track_spec f.track) (track_of f.track) bytes) →
+    puts_at (track_moment f.track) (signs_of_event e) ≡ track_end (track_spec f.track) (track_of f.track) bytes) →
     FilterEndHalted f held took
 end-halted f e held took halted is_end = record {
   more = puts_at (track_moment f.track) (mapped_marks (filtering_rules f) (signs_of_event e));
@@ -190,7 +190,7 @@ ends-as f now bytes held kept took h e = made-all f bytes e.more (e.is_end bytes
 pub end-front : (f : Filtering) (bytes held : List ℕ) (took : List ℕ → Type 0) → FilterHasTold f bytes →
     (e : FilterEndHalted f held took) →
     (others : List Put) × (filtered_tape (filtering_rules f) (filtering_spec f) bytes ≡
-        line_tape ((mapped_puts (filtering_rules f) (track_marks_so_far (filtering_spec f) 0 bytes) ++ e.more) ++ others))
+    line_tape ((mapped_puts (filtering_rules f) (track_marks_so_far (filtering_spec f) 0 bytes) ++ e.more) ++ others))
 end-front f bytes held took h e =
     let all = mapped_puts (filtering_rules f) (track_marks_so_far (filtering_spec f) 0 bytes) ++ e.more in
     ([], made-all f bytes e.more (e.is_end bytes h) ∙ ap line_tape (sym (append-nil all)))
@@ -231,9 +231,9 @@ halted-made rules was a m signs held took same w =
 pub fed-made : (f now : Filtering) (piece : List ℕ) (fault : Option TapeFault) (took : List ℕ → Type 0) →
     filtering_rules now ≡ filtering_rules f →
     Rewrote (Stood (before_of f)) (Rewriting (mapped_puts (filtering_rules f)) (MapsBehind now.mapper) now.track now.line)
-        (live_of (before_of f)) piece fault took →
+    (live_of (before_of f)) piece fault took →
     Rewrote (FilteringStands f) (FilteringStands now) (filtered_so_far (filtering_rules f) (filtering_spec f)) piece fault
-        took
+    took
 fed-made f now piece fault took same r =
     subst (λ (rules : List Rule). Rewrote (FilteringStands f)
     (Rewriting (mapped_puts rules) (MapsBehind now.mapper) now.track now.line)

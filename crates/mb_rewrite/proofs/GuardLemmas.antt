@@ -106,7 +106,7 @@ pub end-heard : (g now : Guarding) (e : Ev) (held kept : List ℕ) (took : List 
     LineWrote g.line now.line (puts_at (track_moment g.track) (signs_of_event e)) held kept took →
     ((marks : List Sign) → Stands g.guard marks → Stands now.guard (marks ++ signs_of_event e)) →
     ((bytes : List ℕ) → TrackTold g.track bytes →
-        puts_at (track_moment g.track) (signs_of_event e) ≡ track_end (track_spec g.track) (track_of g.track) bytes) →
+    puts_at (track_moment g.track) (signs_of_event e) ≡ track_end (track_spec g.track) (track_of g.track) bytes) →
     EndHeard g now held kept took
 end-heard g now e held kept took wrote sounds is_end = record {
   more = puts_at (track_moment g.track) (signs_of_event e);
@@ -120,7 +120,7 @@ end-heard g now e held kept took wrote sounds is_end = record {
 pub end-halted : (g : Guarding) (e : Ev) (held : List ℕ) (took : List ℕ → Type 0) →
     LineHalted g.line (puts_at (track_moment g.track) (signs_of_event e)) held took →
     ((bytes : List ℕ) → TrackTold g.track bytes →
-        puts_at (track_moment g.track) (signs_of_event e) ≡ track_end (track_spec g.track) (track_of g.track) bytes) →
+    puts_at (track_moment g.track) (signs_of_event e) ≡ track_end (track_spec g.track) (track_of g.track) bytes) →
     EndHalted g held took
 end-halted g e held took halted is_end = record {
   more = puts_at (track_moment g.track) (signs_of_event e);
@@ -164,7 +164,7 @@ ends-as g now bytes held kept took h e at =
     let marks = so_far ++ e.more in
     let sounds : now.guard ≡ sounding (denotation (signs_in marks)).items
     = e.sounds (signs_in so_far) h.kept
-      ∙ ap (λ ms. sounding (denotation ms).items) (sym (signs_in-append so_far e.more)) in
+    ∙ ap (λ ms. sounding (denotation ms).items) (sym (signs_in-append so_far e.more)) in
     sym (ap line_tape (sym (append_assoc so_far e.more (off_puts now)))
     ∙ (ap (λ vs. line_tape (marks ++ puts_at m (map off_sign vs))) sounds
     ∙ (ap (λ n. line_tape (guarded n marks)) (at ∙ (h.told).moment)
@@ -174,7 +174,7 @@ ends-as g now bytes held kept took h e at =
 pub ends-all : (g now : Guarding) (bytes held kept : List ℕ) (took : List ℕ → Type 0) → GuardHasTold g bytes →
     (e : EndHeard g now held kept took) → track_moment now.track ≡ track_moment g.track →
     (others : List Put) × (guarded_tape (guarding_spec g) bytes ≡
-        line_tape ((track_marks_so_far (guarding_spec g) 0 bytes ++ (e.more ++ off_puts now)) ++ others))
+    line_tape ((track_marks_so_far (guarding_spec g) 0 bytes ++ (e.more ++ off_puts now)) ++ others))
 ends-all g now bytes held kept took h e at =
     let all = track_marks_so_far (guarding_spec g) 0 bytes ++ (e.more ++ off_puts now) in
     ([], ends-as g now bytes held kept took h e at ∙ ap line_tape (sym (append-nil all)))
@@ -183,7 +183,7 @@ ends-all g now bytes held kept took h e at =
 pub end-front : (g : Guarding) (bytes held : List ℕ) (took : List ℕ → Type 0) → GuardHasTold g bytes →
     (e : EndHalted g held took) →
     (others : List Put) × (guarded_tape (guarding_spec g) bytes ≡
-        line_tape ((track_marks_so_far (guarding_spec g) 0 bytes ++ e.more) ++ others))
+    line_tape ((track_marks_so_far (guarding_spec g) 0 bytes ++ e.more) ++ others))
 end-front g bytes held took h e =
     let s = guarding_spec g in
     let offs = puts_at (last_record_moment (track_records bytes)) (off_marks (signs_in (track_marks s 0 bytes))) in
@@ -239,12 +239,12 @@ pub offs-halted : (was mid : LineTape) (m : ℕ) (voices was_left left : List Vo
     LineHalted mid (puts_at m (sign ∷ [])) k second → LineHalted was (puts_at m (map off_sign voices)) h both
 offs-halted was mid m voices was_left left v sign h k first second both joined o e f w =
     let all : puts_at m (map off_sign voices) ≡
-        (puts_at m (map off_sign o.done) ++ puts_at m (off_sign v ∷ [])) ++ puts_at m (map off_sign left)
+    (puts_at m (map off_sign o.done) ++ puts_at m (off_sign v ∷ [])) ++ puts_at m (map off_sign left)
     = ap (λ vs. puts_at m (map off_sign vs))
-      (o.split ∙ (ap (λ vs. o.done ++ vs) e ∙ sym (append_assoc o.done (v ∷ []) left)))
-      ∙ (ap (puts_at m) (map-append off_sign (o.done ++ v ∷ []) left)
-      ∙ (puts_at-append m (map off_sign (o.done ++ v ∷ [])) (map off_sign left)
-      ∙ ap (λ ps. ps ++ puts_at m (map off_sign left)) (off-more m o.done v))) in
+    (o.split ∙ (ap (λ vs. o.done ++ vs) e ∙ sym (append_assoc o.done (v ∷ []) left)))
+    ∙ (ap (puts_at m) (map-append off_sign (o.done ++ v ∷ []) left)
+    ∙ (puts_at-append m (map off_sign (o.done ++ v ∷ [])) (map off_sign left)
+    ∙ ap (λ ps. ps ++ puts_at m (map off_sign left)) (off-more m o.done v))) in
     subst (λ (ps : List Put). LineHalted was ps h both) (sym all)
     (halted-within was (puts_at m (map off_sign o.done) ++ puts_at m (off_sign v ∷ [])) (puts_at m (map off_sign left))
     h both

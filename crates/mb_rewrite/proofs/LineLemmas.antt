@@ -147,8 +147,7 @@ halted-within a xs ys h took f = record {
   front = f.front;
   took_it = f.took_it;
   part = λ puts st.
-      part-within f.front (h ++ line_beyond puts xs) (h ++ line_beyond puts (xs ++ ys)) (f.part puts st)
-      (
+      part-within f.front (h ++ line_beyond puts xs) (h ++ line_beyond puts (xs ++ ys)) (f.part puts st) (
         line_beyond (puts ++ xs) ys,
         ap (λ zs. h ++ zs) (beyond-more puts xs ys)
             ∙ sym (append_assoc h (line_beyond puts xs) (line_beyond (puts ++ xs) ys)),
@@ -169,10 +168,10 @@ wrote-none a h took none = record {
 -- of so many bytes a part is gathered; what is to be gathered ends what is still owed
 pub record Gathering (was now : Piece) (all left : List TimedByte) (held kept : List ℕ) (took : List ℕ → Type 0) : Type 0
   where
-  pub wrote : List ℕ
-  pub holds : Holds took (held ++ wrote) kept
-  pub rest : ended_from was all ≡ wrote ++ ended_from now left
-  pub piece : piece_after was all ≡ piece_after now left
+    pub wrote : List ℕ
+    pub holds : Holds took (held ++ wrote) kept
+    pub rest : ended_from was all ≡ wrote ++ ended_from now left
+    pub piece : piece_after was all ≡ piece_after now left
 
 pub gathering-none : (p : Piece) (all : List TimedByte) (held : List ℕ) (took : List ℕ → Type 0) → took [] →
     Gathering p p all all held held took
@@ -205,8 +204,7 @@ gathering-refused was now all left held kept first second both joined g f =
     fronted-within both (held ++ g.wrote) (held ++ ended_from was all)
     (subst (Fronted both) (append-nil (held ++ g.wrote))
     (fronted-then first second both (held ++ g.wrote) [] kept joined g.holds
-    (subst (Fronted second) (sym (append-nil kept)) f)))
-    (
+    (subst (Fronted second) (sym (append-nil kept)) f))) (
       ended_from now left,
       ap (λ zs. held ++ zs) g.rest ∙ sym (append_assoc held g.wrote (ended_from now left)),
     )
@@ -214,11 +212,10 @@ gathering-refused was now all left held kept first second both joined g f =
 pub gathering-all : (was now : Piece) (all : List TimedByte) (held kept : List ℕ) (took : List ℕ → Type 0) →
     Gathering was now all [] held kept took →
     (now ≡ piece_after was all) × Holds took (held ++ ended_from was all) kept
-gathering-all was now all held kept took g =
-    (
-      sym g.piece,
-      subst (λ (zs : List ℕ). Holds took (held ++ zs) kept) (sym (g.rest ∙ append-nil g.wrote)) g.holds,
-    )
+gathering-all was now all held kept took g = (
+  sym g.piece,
+  subst (λ (zs : List ℕ). Holds took (held ++ zs) kept) (sym (g.rest ∙ append-nil g.wrote)) g.holds,
+)
 
 pub on-both : {T E : Type 0} (r : Result T E) (P Q R : Type 0) → (P → Q → R) → OnOk r P → OnOk r Q → OnOk r R
 on-both (Ok x) P Q R f p q = f p q
@@ -235,7 +232,7 @@ spelled-by running ms signs m spelled e a =
 
 pub one-beyond : (was : LineTape) (m : ℕ) (signs : List Sign) (spelled : List ℕ) →
     ((ms : List Sign) → din.Stands was.writer ms →
-        Appended [] spelled (stream_written was.writer.running ms) (stream_written was.writer.running (ms ++ signs))) →
+    Appended [] spelled (stream_written was.writer.running ms) (stream_written was.writer.running (ms ++ signs))) →
     (puts : List Put) → LineStands was puts →
     ended_from was.gather (map (byte_at m) spelled) ≡ line_beyond puts (puts_at m signs)
 one-beyond was m signs spelled spells puts st =
@@ -247,7 +244,7 @@ pub one-wrote : (was now : LineTape) (m : ℕ) (signs : List Sign) (spelled held
     (took : List ℕ → Type 0) → now.writer.running ≡ was.writer.running →
     ((ms : List Sign) → din.Stands was.writer ms → din.Stands now.writer (ms ++ signs)) →
     ((ms : List Sign) → din.Stands was.writer ms →
-        Appended [] spelled (stream_written was.writer.running ms) (stream_written was.writer.running (ms ++ signs))) →
+    Appended [] spelled (stream_written was.writer.running ms) (stream_written was.writer.running (ms ++ signs))) →
     now.begun ≡ was.begun → now.gather ≡ piece_after was.gather (map (byte_at m) spelled) →
     Holds took (held ++ ended_from was.gather (map (byte_at m) spelled)) kept →
     LineWrote was now (puts_at m signs) held kept took
@@ -271,7 +268,7 @@ one-wrote was now m signs spelled held kept took same stands spells begun piece 
 
 pub one-halted : (was : LineTape) (m : ℕ) (signs : List Sign) (spelled held : List ℕ) (took : List ℕ → Type 0) →
     ((ms : List Sign) → din.Stands was.writer ms →
-        Appended [] spelled (stream_written was.writer.running ms) (stream_written was.writer.running (ms ++ signs))) →
+    Appended [] spelled (stream_written was.writer.running ms) (stream_written was.writer.running (ms ++ signs))) →
     Fronted took (held ++ ended_from was.gather (map (byte_at m) spelled)) →
     LineHalted was (puts_at m signs) held took
 one-halted was m signs spelled held took spells f = record {
@@ -323,11 +320,11 @@ pub run-halted : (a b : LineTape) (m : ℕ) (bytes rest first others : List ℕ)
     LineHalted b (puts_at m (map ByteSign first)) k here → LineHalted a (puts_at m (map ByteSign bytes)) h both
 run-halted a b m bytes rest first others h k before here both joined r e w =
     let all : puts_at m (map ByteSign bytes) ≡
-        (puts_at m (map ByteSign r.front) ++ puts_at m (map ByteSign first)) ++ puts_at m (map ByteSign others)
+    (puts_at m (map ByteSign r.front) ++ puts_at m (map ByteSign first)) ++ puts_at m (map ByteSign others)
     = ap (λ xs. puts_at m (map ByteSign xs)) (r.split ∙ (ap (λ xs. r.front ++ xs) e
-      ∙ sym (append_assoc r.front first others)))
-      ∙ (run-puts m (r.front ++ first) others
-      ∙ ap (λ ps. ps ++ puts_at m (map ByteSign others)) (run-puts m r.front first)) in
+    ∙ sym (append_assoc r.front first others)))
+    ∙ (run-puts m (r.front ++ first) others
+    ∙ ap (λ ps. ps ++ puts_at m (map ByteSign others)) (run-puts m r.front first)) in
     subst (λ (ps : List Put). LineHalted a ps h both) (sym all)
     (halted-within a (puts_at m (map ByteSign r.front) ++ puts_at m (map ByteSign first))
     (puts_at m (map ByteSign others)) h both

@@ -43,13 +43,12 @@ before-rises : (last : ℕ) (t : TimedByte) (ss : List Stretch) → last ≤ t.m
 before-rises last t [] low high rise = (low, high, omega arith, tt)
 before-rises last t (s ∷ ss) low high rise = by (t.moment == s.moment) refl where
   by : (same : Bool) → (t.moment == s.moment) ≡ same → StretchesRise last (before_by same t s ss)
-  by true e =
-      (
-        low,
-        high,
-        omega arith,
-        subst (λ (m : ℕ). StretchesRise m ss) (sym (same-number t.moment s.moment e)) rise.3,
-      )
+  by true e = (
+    low,
+    high,
+    omega arith,
+    subst (λ (m : ℕ). StretchesRise m ss) (sym (same-number t.moment s.moment e)) rise.3,
+  )
   by false e = (low, high, omega arith, rise)
 
 stretches-rise : (last : ℕ) (ts : List TimedByte) → TimesRise last ts → StretchesRise last (stretches ts)
@@ -85,7 +84,7 @@ pieces-right last m q (b ∷ bs) rest low high some few are =
         (length q < 255 → AreRecords true last (map (piece_record m) (pieces_from (q ++ b ∷ []) bs) ++ rest)) →
         AreRecords true m (map (piece_record m) (pieces_from (b ∷ []) bs) ++ rest) →
         AreRecords true last
-            (map (piece_record m) (if room then pieces_from (q ++ b ∷ []) bs else q ∷ pieces_from (b ∷ []) bs) ++ rest)
+        (map (piece_record m) (if room then pieces_from (q ++ b ∷ []) bs else q ∷ pieces_from (b ∷ []) bs) ++ rest)
     by true e on off = on (grind (arith, nat_tests))
     by false e on off = (piece-right last m q low high some few, off)
 

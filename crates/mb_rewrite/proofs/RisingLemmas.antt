@@ -123,12 +123,12 @@ track-moments s track tape signs fits =
     let flat : puts_at m signs ++ [] ≡ puts_at m signs = append-nil (puts_at m signs) in
     let rising : IsRising m tail
     = rising-at m m ends (puts_at m signs) (omega arith)
-      (subst (λ (ps : List Put). IsRising m ps) flat (rising-at m m signs [] (omega arith) tt)) in
+    (subst (λ (ps : List Put). IsRising m ps) flat (rising-at m m signs [] (omega arith) tt)) in
     let last : last_put m tail ≤ last_put m (puts_at m signs) = last-at m m ends (puts_at m signs) (omega arith) in
     let is : last_put m (puts_at m signs) ≡ m = last-one m signs in
     let below : last_put 0 (marks_from s track [] rs ++ tail) ≤ last_put m tail
     = subst (λ (n : ℕ). last_put 0 (marks_from s track [] rs ++ tail) ≤ last_put n tail) (last-is-end rs)
-      (marks-last s track 0 [] rs tail rise) in
+    (marks-last s track 0 [] rs tail rise) in
     subst AreMoments same (
       marks-rise s track 0 [] rs tail rise
           (subst (λ (n : ℕ). IsRising n tail) (sym (last-is-end rs)) rising),

@@ -81,7 +81,9 @@ impl LineTape {
     {
         match ev {
             Ev::Run(bytes) => self.put_run(moment, bytes, held, out),
-            Ev::Short(_) | Ev::Rt(_) | Ev::Open | Ev::End | Ev::Abort => self.put_one(moment, ev, held, out),
+            Ev::Short(_) | Ev::Rt(_) | Ev::Open | Ev::End | Ev::Abort => self.put_one(
+                moment, ev, held, out,
+            ),
         }
     }
 

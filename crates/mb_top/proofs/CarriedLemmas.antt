@@ -130,7 +130,6 @@ by_status c limit left read written tally (Stopped (Faulty (fault.File f))) w ot
       told = subst (λ (x : Option Fault). Tells x 13) (sym (ends.2)) refl;
       end = λ all. absurd (wrong (sym all));
     }
-
 by_status c limit left read written tally (Stopped (Faulty fault.LongTrack)) w other ends =
     absurd (w.no_left_out read full.Track (ends.2))
 by_status c limit left read written tally (Stopped (Faulty (fault.LongGap was now))) w other ends =

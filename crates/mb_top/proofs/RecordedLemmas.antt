@@ -208,8 +208,13 @@ records-completes words limit before after reads writes (Stopped ReadFault) s m 
 records-completes words limit before after reads writes (Stopped Refused) s m may r f nr nw short is sound ran =
     absurd (nw (f refl))
 records-completes words limit before after reads writes (Stopped TooLong) s m may r f nr nw short is sound ran =
-    absurd (omega (arith, short, (ran.ends (RecordingTape s) m).0, ap length (ran.front).1,
-    length-append ran.input (ran.front).0))
+    absurd (omega (
+      arith,
+      short,
+      (ran.ends (RecordingTape s) m).0,
+      ap length (ran.front).1,
+      length-append ran.input (ran.front).0,
+    ))
 records-completes words limit before after reads writes (Stopped (Faulty (fault.Tape g))) s m may r f nr nw short is
     sound ran = absurd (sound ran.input (fault.Tape g) ran.front (ran.ends (RecordingTape s) m).2)
 records-completes words limit before after reads writes (Stopped (Faulty (fault.File g))) s m may r f nr nw short is

@@ -36,7 +36,7 @@ told-whole start count limit text before after is wrote =
             all = λ reads. absurd (not-read reads);
             below = λ reads. absurd (not-read reads);
             can = tt;
-      sound = refl;
+            sound = refl;
             output_is = is;
             tally_is = refl;
           },

@@ -568,21 +568,21 @@ pub close-faults : (closing : Status) (reads reads_now writes writes_mid writes_
 close-faults closing reads reads_now writes writes_mid writes_now status no_read no_write same how still =
     elim how [
       | inl e ↦ record {
-          reads_later = omega (arith, still);
-          writes_later = omega (arith, same, e.1);
-          read = λ h. absurd (no_read (sym e.0 ∙ h));
-          write = λ h. absurd (no_write (sym e.0 ∙ h));
-          unread = λ other quiet. still;
-          unwritten = λ other. e.1 ∙ same;
-        }
+        reads_later = omega (arith, still);
+        writes_later = omega (arith, same, e.1);
+        read = λ h. absurd (no_read (sym e.0 ∙ h));
+        write = λ h. absurd (no_write (sym e.0 ∙ h));
+        unread = λ other quiet. still;
+        unwritten = λ other. e.1 ∙ same;
+      }
       | inr e ↦ record {
-          reads_later = omega (arith, still);
-          writes_later = omega (arith, same, e.2);
-          read = λ h. absurd (not-read_fault (sym e.0 ∙ h));
-          write = λ h. omega (arith, same, e.1);
-          unread = λ other quiet. still;
-          unwritten = λ other. absurd (other e.0);
-        }
+        reads_later = omega (arith, still);
+        writes_later = omega (arith, same, e.2);
+        read = λ h. absurd (not-read_fault (sym e.0 ∙ h));
+        write = λ h. omega (arith, same, e.1);
+        unread = λ other quiet. still;
+        unwritten = λ other. absurd (other e.0);
+      }
     ]
 
 pub at_end-no_read : (cut noted : Bool) → at_end cut noted ≡ Stopped ReadFault → ⊥

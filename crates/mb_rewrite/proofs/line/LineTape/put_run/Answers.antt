@@ -29,8 +29,8 @@ pub runs-preserved : goal.runs-preserved
 runs-preserved g c =
     let split : c.runs.rest.now ≡ c.split_at.result.0.now ++ c.split_at.result.1.now
     = sym (take-append-drop c.min.result c.runs.rest.now)
-      ∙ (ap (λ xs. xs ++ drop c.min.result c.runs.rest.now) (sym c.split_at.ensures.front)
-      ∙ ap (λ xs. c.split_at.result.0.now ++ xs) (sym c.split_at.ensures.back)) in
+    ∙ (ap (λ xs. xs ++ drop c.min.result c.runs.rest.now) (sym c.split_at.ensures.front)
+    ∙ ap (λ xs. c.split_at.result.0.now ++ xs) (sym c.split_at.ensures.back)) in
     record {
       ready = c.put_one.ensures.ready;
       sound = c.in_default.ensures.sound ∙ c.runs.invariant.sound;
