@@ -38,6 +38,14 @@ while IFS= read -r command; do
   [ "$found" = "$wanted" ] || { echo "README.md, $command: it prints $found"; wrong=1; }
 done < <(sed -n 's/^[$] \(\.\/midibridge .*\)/\1/p' ../README.md)
 
+# The pipelines that it shows, with what they say on standard error.
+while IFS= read -r command; do
+  shown=$((shown + 1))
+  wanted=$(awk -v command="\$ ${command//\\/\\\\}" '$0 == command { on = 1; next } /^[$]|^```/ { on = 0 } on' ../README.md)
+  found=$(cd .. && eval "${command//.\/midibridge/\"\$program\"}" 2>&1)
+  [ "$found" = "$wanted" ] || { echo "README.md, $command: it prints $found"; wrong=1; }
+done < <(sed -n 's/^[$] \(printf .*\)/\1/p' ../README.md)
+
 [ "$rows" -gt 0 ] && [ "$shown" -gt 0 ] || { echo "no rows"; exit 1; }
 [ "$wrong" = 0 ] && echo "$rows examples and $shown commands are as they are shown"
 exit "$wrong"
