@@ -1,6 +1,8 @@
 -- What a link stands for, step by step.
-use Rattle.std.proofs.Common.{◌≡◌, ◌≤◌, ◌+◌, ◌-◌, ◌^◌, ℕ, Bool, true, false, not, List, [], ◌∷◌, ◌++◌, length, take, drop, refl}
-use Rattle.std.proofs.Common.{sym, ◌∙◌, ap, subst, arith, append_assoc, length-append, IsTrue, Option, Some, None, Result}
+use Rattle.std.proofs.Common.{◌≡◌, ◌≤◌, ◌+◌, ◌-◌, ◌^◌, ℕ, Bool, true, false, not, List, [], ◌∷◌, ◌++◌, length}
+use Rattle.std.proofs.Common.{take, drop, refl}
+use Rattle.std.proofs.Common.{sym, ◌∙◌, ap, subst, arith, append_assoc, length-append, IsTrue, Option, Some, None}
+use Rattle.std.proofs.Common.{Result}
 use Rattle.std.proofs.Common.{Ok, Err}
 use Rattle.std.proofs.lemmas.List.{append-nil, length-map, take-append-drop}
 use Rattle.mb_message.specs.Signs.{Sign}

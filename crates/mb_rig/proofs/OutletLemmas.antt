@@ -10,7 +10,8 @@ use Rattle.mb_rig.specs.Outlet.{OutletGavePart}
 -- a beginning of what a buffer has was written
 pub gave_part : {S : Type 0} (tells : Bool) (contents : S → Contents) (read_faults : S → ℕ) (handle : ℕ)
     (empty items piece less more : List ℕ) (before after : S) → Appended empty items less more → empty ≡ [] →
-    piece ≡ items → ((front : List ℕ) × IsPart front piece × Wrote tells contents read_faults handle before front after) →
+    piece ≡ items →
+    ((front : List ℕ) × IsPart front piece × Wrote tells contents read_faults handle before front after) →
     OutletGavePart tells contents read_faults handle less more before after
 gave_part tells contents read_faults handle empty items piece less more before after appended none same part =
     let all : piece ≡ appended.wrote =

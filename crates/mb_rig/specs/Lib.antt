@@ -9,3 +9,4 @@ pub mod Heard
 pub mod Link
 pub mod Outs
 pub mod Turn
+pub mod PassedOn

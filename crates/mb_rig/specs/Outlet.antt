@@ -1,8 +1,8 @@
 -- An out: the handle that it writes to, and the writer of its port.
 --
 --   mark_byte mark         the data byte that a mark is, or 0
---   OutletStands ..        it was put these marks at their moments, and flushed between them, and its handle has what is
---                          known of how they are written
+--   OutletStands ..        it was put these marks at their moments, and flushed between them, and its handle has what
+--                          is known of how they are written
 --   OutletGave ..          it stands for a longer list now, its handle got what that has beyond the shorter one, and
 --                          nothing else of the desk changed
 --   OutletGavePart ..      its handle got a beginning of that

@@ -1,7 +1,7 @@
 -- The line of a mark that passes. Moments are kept in microseconds and told in milliseconds.
 --
---   kind_of mark               what a mark completes: a short message, a SysEx that ended or was broken off, a real-time
---                              message
+--   kind_of mark               what a mark completes: a short message, a SysEx that ended or was broken off, a
+--                              real-time message
 --   passing_text moment p      the line of a mark that passes at a moment, or nothing where it completes nothing
 use Rattle.std.specs.Prelude.{ℕ, ◌/◌, List, [], Option, Some, None}
 use Rattle.mb_message.specs.declared.mark.Mark.{Mark}

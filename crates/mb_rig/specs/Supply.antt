@@ -1,6 +1,7 @@
 -- What a handle to read has given.
 --
---   SupplyValue                 a handle, the most that is taken off it, how much was taken, and what of it wasn't handed out
+--   SupplyValue                 a handle, the most that is taken off it, how much was taken, and what of it
+--                               wasn't handed out
 --   front_of s                  the next byte, if one is at hand
 --   Drew handle old more new    these bytes were taken off a handle, and nothing else of the desk changed
 --   IsLent s contents bytes     what was taken off the handle is what was handed out and what is at hand

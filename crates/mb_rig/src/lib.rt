@@ -1,4 +1,5 @@
-//! Rigs: which ports of which tapes are merged into which outs. So far their text.
+//! Rigs: which ports of which tapes are merged into which outs. So far their text, and parts of a run that nothing
+//! joins yet.
 #![tactic(auto)]
 
 mod fault;
@@ -9,6 +10,7 @@ mod link;
 mod name;
 mod outlet;
 mod outs;
+mod passing;
 mod report;
 mod rig;
 mod supply;

@@ -20,7 +20,8 @@ pub(crate) fn tell_passing<D: Desk>(
     moment: u64,
     desk: &mut D,
 ) -> Result<(), Refused>
-    ensures told { OnOk result (Wrote D.tells D.contents D.read_faults 1 desk.old (passing_text moment passed) desk.new) }
+    ensures told { OnOk result
+        (Wrote D.tells D.contents D.read_faults 1 desk.old (passing_text moment passed) desk.new) }
     ensures part { OnErr result ((front : List ℕ) × IsPart front (passing_text moment passed) ×
         Wrote D.tells D.contents D.read_faults 1 desk.old front desk.new) }
     ensures cause { HasCause (D.write_faults desk.old) (D.write_faults desk.new) result }

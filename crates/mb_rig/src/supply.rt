@@ -1,7 +1,7 @@
 //! A handle to read, piece by piece, up to a limit.
 
-ghost use Rattle.std.specs.Prelude.{◌≡◌, ◌≢◌, ◌↔◌, ℕ, ◌+◌, ◌≤◌, true, false, List, [], ◌++◌, drop, length, IsTrue, IfOk};
-ghost use Rattle.std.specs.Prelude.{IfErr, OnOk, OnErr, Ok};
+ghost use Rattle.std.specs.Prelude.{◌≡◌, ◌≢◌, ◌↔◌, ℕ, ◌+◌, ◌≤◌, true, false, List, [], ◌++◌, drop, length, IsTrue};
+ghost use Rattle.std.specs.Prelude.{IfOk, IfErr, OnOk, OnErr, Ok};
 ghost use Rattle.mb_outside.specs.Cause.{HasCause};
 ghost use Rattle.mb_outside.specs.Contents.{is_readable};
 ghost use Rattle.mb_rig.specs.Supply.{Drew, DryBy, front_of};
@@ -102,7 +102,8 @@ impl Supply {
         ensures none { result ≡ Ok false → self.new.ahead ≡ [] }
         ensures dry { IfErr result
             (DryBy (D.read_faults desk.old) (D.read_faults desk.new) self.old.count self.old.limit) }
-        ensures err { OnErr result ((self.new.ahead ≡ []) × (IsTrue D.tells → D.contents desk.new ≡ D.contents desk.old)) }
+        ensures err { OnErr result ((self.new.ahead ≡ []) ×
+            (IsTrue D.tells → D.contents desk.new ≡ D.contents desk.old)) }
         ensures sound { OnOk result (D.read_faults desk.new ≡ D.read_faults desk.old) }
         ensures write_faults { D.write_faults desk.new ≡ D.write_faults desk.old }
     {

@@ -1,0 +1,19 @@
+use Rattle.std.proofs.Common.{arith}
+use Rattle.std.proofs.lemmas.Result.{on_ok_weaker}
+use Rattle.mb_rig.proofs.OutsLemmas.{among-one, outs-kept}
+use Rattle.mb_rig.proofs.passing.pass.Goals as goal
+
+pub returns-clause-stand : goal.returns-clause-stand
+returns-clause-stand g c =
+    let D = g.D.Desk in
+    on_ok_weaker c.tell_passing.result (λ wrote first putss low st.
+    outs-kept D.tells D.contents D.read_faults 1 1 first _ _ c.pass_on.new.desk c.tell_passing.new.desk
+    (omega (arith, low)) (among-one D.tells D.contents D.read_faults 1 _ _ _ wrote)
+    (c.in_default.ensures.stand first putss st)) c.tell_passing.ensures.told
+
+pub returns-clause-passed : goal.returns-clause-passed
+returns-clause-passed g c = on_ok_weaker c.tell_passing.result (λ wrote first putss st. record {
+  between = c.pass_on.new.desk;
+  outs = c.pass_on.ensures.among first putss st;
+  line = wrote;
+}) c.tell_passing.ensures.told
