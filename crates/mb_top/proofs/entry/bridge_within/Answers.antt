@@ -18,9 +18,10 @@ use Rattle.mb_top.proofs.PlayLemmas.{whole-sound_file}
 use Rattle.mb_top.proofs.RecordedLemmas.{Recorded, file-means, recorded-by, records-completes}
 use Rattle.mb_stream.specs.Denotation.{denotation}
 use Rattle.mb_stream.specs.Puts.{signs_in}
+use Rattle.mb_ble.specs.Distances.{message_moments}
 use Rattle.mb_track.specs.Track.{track_marks}
 use Rattle.mb_tapes.specs.Played.{played}
-use Rattle.mb_tapes.proofs.PlayBackLaw.{played-means}
+use Rattle.mb_tapes.proofs.PlayBackLaw.{played-means, played-moments}
 use Rattle.mb_carrier.specs.declared.spec.Spec.TheVariants.{Din}
 use Rattle.mb_top.proofs.MigrationLemmas as tape
 use Rattle.mb_top.proofs.SoFarLemmas.{live_written, so_far-lacks, so_far-held, so_far-stays, so_far-ends, so_far-front}
@@ -243,6 +244,12 @@ returns-clause-plays_back g c = λ tells m other s tape can is.
     ap (λ (bytes : List ℕ). denotation (signs_in (track_marks Din 0 bytes)))
     (returns-clause-played g c tells m other ∙ ap played is)
     ∙ played-means (track_marks s 0 tape) can
+
+pub returns-clause-plays_back_at : goal.returns-clause-plays_back_at
+returns-clause-plays_back_at g c = λ tells m other s tape can is.
+    ap (λ (bytes : List ℕ). message_moments (track_marks Din 0 bytes))
+    (returns-clause-played g c tells m other ∙ ap played is)
+    ∙ played-moments (track_marks s 0 tape) can
 
 pub returns-clause-records : goal.returns-clause-records
 returns-clause-records g c = λ s tells m unhindered short is_whole.
