@@ -15,10 +15,10 @@ ghost use Rattle.mb_din.specs.Reader.{Stands, NextSays, DinAllTold, IsFrontTaken
 ghost use Rattle.mb_message.specs.Front.{IsFront};
 
 use crate::progress::{
-    Progress, at_end, before_status, is_free, is_open, is_running, message, realtime, short,
+    Progress, at_end, before_status, is_free, is_open, is_running, message, note, realtime, short,
     take_data, take_run, take_status,
 };
-use mb_message::{Ev, Seen};
+use mb_message::{Ev, NoteKind, Seen};
 use std::marker::Model;
 
 /// Reads a byte line that comes in pieces.
@@ -263,7 +263,7 @@ impl DinReader {
         ensures some { OnSome result (answer result ≡ [] → ⊥) }
         ensures before { breaks (answer result) ≡ true → StatusNext input.new.now × Rests self.new }
     {
-        if let Some(seen) = self.take_message(input) {
+        if let Some(seen) = self.take_whole(input) {
             return Some(seen);
         }
         while let Some((byte, rest)) = input.split_first() {
@@ -272,6 +272,74 @@ impl DinReader {
             }
         }
         None
+    }
+
+    /// Takes what stands whole at the front of the input: a channel message, a real-time byte, or a data byte that
+    /// belongs to no message. `None`, and nothing is taken, where anything else stands there.
+    #[inline(always)]
+    fn take_whole<'a>(&mut self, input: &mut &'a [u8]) -> Option<Seen<'a>>
+        requires early { self.old.offset + length input.old.now < 2 ^ 63 }
+        ensures told { OnSome result (answer result ≡ (turn self.old input.old.now).told) }
+        ensures left { OnSome result (input.new.now ≡ (turn self.old input.old.now).left) }
+        ensures behind { OnSome result (self.new ≡ (turn self.old input.old.now).behind) }
+        ensures some { OnSome result (answer result ≡ [] → ⊥) }
+        ensures unbroken { breaks (answer result) ≡ false }
+        ensures same { IfNone result (self.new ≡ self.old) }
+        ensures kept { IfNone result (input.new.now ≡ input.old.now) }
+    {
+        let (byte, rest) = input.split_first()?;
+        if *byte < 0x80 {
+            if let Progress::Idle = self.progress {
+                return Some(self.take_stray(*byte, rest, input));
+            }
+        } else if *byte >= 0xf8 {
+            return Some(self.take_realtime(*byte, rest, input));
+        }
+        self.take_message(input)
+    }
+
+    /// Takes a real-time byte.
+    #[inline(always)]
+    fn take_realtime<'a>(
+        &mut self,
+        byte: u8,
+        rest: &'a [u8],
+        input: &mut &'a [u8],
+    ) -> Seen<'static>
+        requires first { input.old.now ≡ byte ∷ rest.now }
+        requires early { self.old.offset + length input.old.now < 2 ^ 63 }
+        requires realtime { is_realtime byte ≡ true }
+        ensures told { told_by result ≡ (turn self.old input.old.now).told }
+        ensures left { input.new.now ≡ (turn self.old input.old.now).left }
+        ensures behind { self.new ≡ (turn self.old input.old.now).behind }
+        ensures some { told_by result ≡ [] → ⊥ }
+        ensures unbroken { breaks (told_by result) ≡ false }
+    {
+        *input = rest;
+        realtime(self.pass(), byte)
+    }
+
+    /// Takes a data byte where nothing is begun or runs.
+    #[inline(always)]
+    fn take_stray<'a>(
+        &mut self,
+        byte: u8,
+        rest: &'a [u8],
+        input: &mut &'a [u8],
+    ) -> Seen<'static>
+        requires first { input.old.now ≡ byte ∷ rest.now }
+        requires early { self.old.offset + length input.old.now < 2 ^ 63 }
+        requires is_data { is_data byte ≡ true }
+        requires idle { self.old.progress ≡ Progress.Idle }
+        ensures told { told_by result ≡ (turn self.old input.old.now).told }
+        ensures left { input.new.now ≡ (turn self.old input.old.now).left }
+        ensures behind { self.new ≡ (turn self.old input.old.now).behind }
+        ensures some { told_by result ≡ [] → ⊥ }
+        ensures unbroken { breaks (told_by result) ≡ false }
+    {
+        let _ = byte;
+        *input = rest;
+        note(NoteKind::StrayData, self.pass())
     }
 
     /// Takes a channel message that stands whole at the front of the input, as nearly all do: of a status there, or of
