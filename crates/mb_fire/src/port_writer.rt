@@ -134,14 +134,14 @@ impl FirePortWriter {
                 self.dbc = put_short(self.port, self.dbc, short, out);
                 self.in_sysex = false;
             }
-            Ev::Rt(message) => self.dbc = put_bytes(self.port, self.dbc, &[message.byte()], out),
+            Ev::Rt(message) => self.dbc = put_one(self.port, self.dbc, message.byte(), out),
             Ev::Open => {
-                self.dbc = put_bytes(self.port, self.dbc, &[0xf0], out);
+                self.dbc = put_one(self.port, self.dbc, 0xf0, out);
                 self.in_sysex = true;
             }
             Ev::Run(bytes) => self.dbc = put_bytes(self.port, self.dbc, bytes, out),
             Ev::End => {
-                self.dbc = put_bytes(self.port, self.dbc, &[0xf7], out);
+                self.dbc = put_one(self.port, self.dbc, 0xf7, out);
                 self.in_sysex = false;
             }
             Ev::Abort => self.in_sysex = false,
@@ -163,9 +163,10 @@ fn put_short(port: u8, dbc: u8, short: Short, out: &mut Buf) -> u8
 {
     let len = data_len(short.status()).unwrap_or(0);
     if len == 0 {
-        put_bytes(port, dbc, &[short.status()], out)
+        put_one(port, dbc, short.status(), out)
     } else if len == 1 {
-        put_bytes(port, dbc, &[short.status(), short.data1()], out)
+        let next = put_one(port, dbc, short.status(), out);
+        put_one(port, next, short.data1(), out)
     } else {
         put_bytes(
             port,
@@ -174,6 +175,19 @@ fn put_short(port: u8, dbc: u8, short: Short, out: &mut Buf) -> u8
             out,
         )
     }
+}
+
+/// Appends a packet for a byte, and answers the count behind it.
+#[inline(always)]
+fn put_one(port: u8, dbc: u8, byte: u8, out: &mut Buf) -> u8
+    requires port { port < 64 }
+    requires room { array_vec_len out.old + frame_size (port / 8) ≤ 1024 }
+    ensures count { result ≡ dbc_behind dbc (byte ∷ []) }
+    ensures written { out.new.items ≡ out.old.items ++ fire_from port dbc (byte ∷ []) }
+    ensures len { array_vec_len out.new ≡ array_vec_len out.old + frame_size (port / 8) }
+{
+    put_packet(port, dbc, byte, out);
+    dbc.wrapping_add(8)
 }
 
 /// Appends a packet for each byte, and answers the count behind them.

@@ -7,17 +7,17 @@ use Rattle.mb_fire.proofs.port_writer.FirePortWriter.write.Goals as goal
 pub returns-in-Run-clause-count : goal.returns-in-Run-clause-count
 returns-in-Run-clause-count c =
     let run = run-open c.args.self.now.in_sysex c.args.ev c.in-Run.bytes c.in-Run.is in
-    c.put_bytes-self-inside-in-Run.ensures.count
+    c.put_bytes-self-inside.ensures.count
     ∙ ap₂ (λ (w : Writer) bs. dbc_behind w.dbc bs) c.self.view_is (sym run.1)
 
 pub returns-in-Run-clause-written : goal.returns-in-Run-clause-written
 returns-in-Run-clause-written c =
     let run = run-open c.args.self.now.in_sysex c.args.ev c.in-Run.bytes c.in-Run.is in
-    c.put_bytes-self-inside-in-Run.ensures.written
+    c.put_bytes-self-inside.ensures.written
     ∙ ap₂ (λ (w : Writer) bs. c.args.out.now.items ++ fire_from w.port w.dbc bs) c.self.view_is (sym run.1)
 
-pub put_bytes-self-inside-requires-in-Run-clause-room : goal.put_bytes-self-inside-requires-in-Run-clause-room
-put_bytes-self-inside-requires-in-Run-clause-room c =
+pub put_bytes-self-inside-requires-clause-room : goal.put_bytes-self-inside-requires-clause-room
+put_bytes-self-inside-requires-clause-room c =
     let run = run-open c.args.self.now.in_sysex c.args.ev c.in-Run.bytes c.in-Run.is in
     omega (
       arith,
@@ -30,6 +30,6 @@ returns-in-Run-clause-len c =
     let run = run-open c.args.self.now.in_sysex c.args.ev c.in-Run.bytes c.in-Run.is in
     omega (
       arith,
-      c.put_bytes-self-inside-in-Run.ensures.len,
+      c.put_bytes-self-inside.ensures.len,
       ap₂ (λ (w : Writer) bs. frame_size (w.port / 8) * length bs) c.self.view_is (sym run.1),
     )
