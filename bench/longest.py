@@ -1,7 +1,7 @@
 #!/usr/bin/env python3
 """What `record` does at the last delta and the last track that a Standard MIDI File may have, and at one more of each:
 tapes of up to 268 million bytes are made as they are read, and what is written is compared to the byte. Ends with
-status 1 where an answer is wrong. It takes some minutes, and about 1.5 GiB of memory.
+status 1 where an answer is wrong. It takes half a minute, 512 MiB of memory and as much of /tmp.
 
     bench/longest.py [PROGRAM]"""
 import os
@@ -102,7 +102,8 @@ def answers(program, what, tape, status, told, file):
             found_told = process.stderr.read().decode().strip()
             found = process.wait()
         fine = (found, found_told) == (status, told) and same(f"{room}/out", file)
-        print(f"{what:52} {'as it should be' if fine else 'WRONG':16} {found:3} {time.perf_counter() - start:7.1f} s", flush=True)
+        verdict = "as it should be" if fine else "WRONG"
+        print(f"{what:30} status {found:2}, {verdict}, {time.perf_counter() - start:.1f} s", flush=True)
         return fine
 
 

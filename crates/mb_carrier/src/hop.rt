@@ -15,6 +15,7 @@ use mb_message::Buf;
 /// Reads a piece on and writes what it gives into an empty buffer, until the piece is used up, or the buffer has no
 /// room for one more event: then it answers what is left of the piece. Where moments are kept apart, it stops also
 /// before an event of another moment, so that all that it writes has the moment that the reader named before.
+#[inline(always)]
 pub fn fill_hop<'a>(
     reader: &mut PortReader,
     writer: &mut PortWriter,

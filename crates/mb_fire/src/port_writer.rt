@@ -168,10 +168,10 @@ fn put_short(port: u8, dbc: u8, short: Short, out: &mut Buf) -> u8
         let next = put_one(port, dbc, short.status(), out);
         put_one(port, next, short.data1(), out)
     } else {
-        put_bytes(
+        put_each_of_three(
             port,
             dbc,
-            &[short.status(), short.data1(), short.data2()],
+            (short.status(), short.data1(), short.data2()),
             out,
         )
     }
@@ -190,6 +190,24 @@ fn put_one(port: u8, dbc: u8, byte: u8, out: &mut Buf) -> u8
     dbc.wrapping_add(8)
 }
 
+/// Appends a packet for each of three bytes, and answers the count behind them.
+#[inline(always)]
+fn put_each_of_three(port: u8, dbc: u8, bytes: (u8, u8, u8), out: &mut Buf) -> u8
+    requires port { port < 64 }
+    requires room { array_vec_len out.old + frame_size (port / 8) * 3 ≤ 1024 }
+    ensures count { result ≡ dbc_behind dbc (bytes.0 ∷ bytes.1 ∷ bytes.2 ∷ []) }
+    ensures written { out.new.items ≡ out.old.items ++ fire_from port dbc (bytes.0 ∷ bytes.1 ∷ bytes.2 ∷ []) }
+    ensures len { array_vec_len out.new ≡ array_vec_len out.old + frame_size (port / 8) * 3 }
+{
+    if port < 8 {
+        put_three(port, dbc, bytes.0, bytes.1, bytes.2, out);
+        return dbc.wrapping_add(24);
+    }
+    let second = put_one(port, dbc, bytes.0, out);
+    let third = put_one(port, second, bytes.1, out);
+    put_one(port, third, bytes.2, out)
+}
+
 /// Appends a packet for each byte, and answers the count behind them.
 #[inline(always)]
 fn put_bytes(port: u8, dbc: u8, bytes: &[u8], out: &mut Buf) -> u8
@@ -199,9 +217,8 @@ fn put_bytes(port: u8, dbc: u8, bytes: &[u8], out: &mut Buf) -> u8
     ensures written { out.new.items ≡ out.old.items ++ fire_from port dbc bytes.now }
     ensures len { array_vec_len out.new ≡ array_vec_len out.old + frame_size (port / 8) * length bytes.now }
 {
-    if port < 8 && bytes.len() == 3 {
-        put_three(port, dbc, bytes[0], bytes[1], bytes[2], out);
-        return dbc.wrapping_add(24);
+    if let [first, second, third] = bytes {
+        return put_each_of_three(port, dbc, (*first, *second, *third), out);
     }
     put_each(port, dbc, bytes, out)
 }
