@@ -1,7 +1,7 @@
 -- The rules are read from their file, and the tape is written as they have it.
 use Rattle.std.proofs.Common.{◌≡◌, ◌⊎◌, ℕ, ◌+◌, ◌<◌, ◌≤◌, Bool, true, false, if◌then◌else◌, List, [], ◌++◌, length, take}
 use Rattle.std.proofs.Common.{drop, refl, sym, ◌∙◌, ap, subst, inl, inr, append_assoc, length-append, arith}
-use Rattle.std.specs.Prelude.{Result, Ok, Err, IfErr, nat_lt}
+use Rattle.std.specs.Prelude.{Result, Ok, Err, IfErr, IsOk, OnOk, nat_lt, ◌↔◌}
 use Rattle.std.proofs.lemmas.List.{drop_at, length-take-le, take-append-drop, take_at}
 use Rattle.mb_message.specs.Front.{IsFront}
 use Rattle.mb_outside.specs.Cause.{Rose}
@@ -41,7 +41,7 @@ left-behind handle before now text t =
     ∙ (with_entry-here before.left handle (drop (length text) (before.left handle))
     ∙ (ap (drop (length text)) (t.front).1 ∙ drop_at text (t.front).0 (length text) refl))
 
-pub text-more : (handle : ℕ) (before old now : Contents) (text buffer piece : List ℕ) (count : ℕ) →
+text-more : (handle : ℕ) (before old now : Contents) (text buffer piece : List ℕ) (count : ℕ) →
     TextRead handle before old text → Gives old now handle count buffer → piece ≡ take count buffer →
     TextRead handle before now (text ++ piece)
 text-more handle before old now text buffer piece count t g cut =
@@ -63,6 +63,22 @@ text-more handle before old now text buffer piece count t g cut =
           ∙ ap (λ (n : ℕ). after_read handle n before)
           (sym (length-append text piece ∙ ap (λ n. length text + n) size))));
     }
+
+-- there was room for the piece
+extended : {T E : Type 0} (r : Result T E) (old new piece : List ℕ) (len room : ℕ) →
+    (IsOk r ↔ (len + length piece ≤ room)) → OnOk r (new ≡ old ++ piece) → len + length piece ≤ room →
+    new ≡ old ++ piece
+extended (Ok x) old new piece len room fits ok within = ok
+extended (Err e) old new piece len room fits ok within = (let fitted = fits.1 within in cc)
+
+pub text-next : {T E : Type 0} (r : Result T E) (handle : ℕ) (before old now : Contents)
+    (text new buffer piece : List ℕ) (len count room : ℕ) →
+    (IsOk r ↔ (len + length piece ≤ room)) → OnOk r (new ≡ text ++ piece) → len + length piece ≤ room →
+    TextRead handle before old text → Gives old now handle count buffer → piece ≡ take count buffer →
+    TextRead handle before now new
+text-next r handle before old now text new buffer piece len count room fits ok within t g cut =
+    subst (TextRead handle before now) (sym (extended r text new piece len room fits ok within))
+    (text-more handle before old now text buffer piece count t g cut)
 
 same-read : (handle count : ℕ) (old now : Contents) (buffer : List ℕ) → Gives old now handle count buffer →
     count ≡ 0 → now ≡ old
