@@ -440,7 +440,7 @@ answered quiet words limit before mid after reads reads_mid faults faults_mid fa
     all = wrote ∙ (ap (after_write 2 text) r.contents ∙ written-behind r.input r.output r.tally text r.start)
 
     same : SameHandles before r.start
-    same = elim r.opened [ | inl e ↦ untouched before r.start e | inr o ↦ opened-same o.0 before r.start o.3 ]
+    same = elim r.opened [ inl e ↦ untouched before r.start e | inr o ↦ opened-same o.0 before r.start o.3 ]
 
     front : IsFront r.input (r.start.left 0)
     front = subst (IsFront r.input) (sym (same.left 0 (omega arith))) r.front

@@ -190,7 +190,7 @@ pub part-task : (words : List (List ℕ)) (limit : ℕ) (before after : Contents
     IsFront (added_to 1 before after) (output_of t (taken_off 0 before after))
 part-task words limit before after faults faults_now answer t four a did =
     let ends : EndsAs t limit (before.left 0) (taken_off 0 before after) (added_to 1 before after) a.tally
-        (Stopped Refused)
+    (Stopped Refused)
     = subst (EndsAs t limit (before.left 0) (taken_off 0 before after) (added_to 1 before after) a.tally)
     (same_status a.status (Stopped Refused) refl (sym a.number ∙ four)) did.ends in
     ends.front

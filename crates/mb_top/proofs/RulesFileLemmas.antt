@@ -14,6 +14,8 @@ use Rattle.mb_filter.specs.declared.rules.RulesFault.{RulesFault}
 use Rattle.mb_filter.specs.declared.rules.RuleWhy.TheVariants as why
 use Rattle.mb_text.specs.Text.{lines}
 use Rattle.mb_carrier.specs.declared.spec.Spec.{Spec}
+use Rattle.mb_rewrite.specs.Filtering.{filtering_rules, filtering_spec}
+use Rattle.mb_rewrite.specs.declared.filtering.Filtering.{Filtering}
 use Rattle.mb_words.specs.Command.{FilteringTape}
 use Rattle.mb_top.specs.Answer.{EndsAs}
 use Rattle.mb_top.specs.RulesFile.{HasJudged, HasRules, IsRulesStop, NoRules, Opened, RulesRead, TextRead, text_taken}
@@ -214,6 +216,12 @@ judged-stops found (Err (Faulty fault.Memory)) h = absurd h
 not-unread : true ≡ false → ⊥
 not-unread e = cc
 
+pub filter-task : (f : Filtering) (rules : List Rule) (s : Spec) → filtering_rules f ≡ rules → filtering_spec f ≡ s →
+    FilteringTape (filtering_rules f) (filtering_spec f) ≡ FilteringTape rules s
+filter-task f rules s same spec_is =
+    ap (λ (rs : List Rule). FilteringTape rs (filtering_spec f)) same
+    ∙ ap (λ (t : Spec). FilteringTape rules t) spec_is
+
 pub filter-ran : (file : List ℕ) (s : Spec) (limit : ℕ) (before start after : Contents) (rules : List Rule)
     (t : Task) (status : Status) → t ≡ FilteringTape rules s → Opened before start file × HasRules file before start rules →
     Ran t limit start after status → CommandRan (FilteringTape file s) limit before after status
@@ -244,7 +252,7 @@ pub filter-none : (file : List ℕ) (s : Spec) (limit : ℕ) (before start : Con
 filter-none file s limit before start stop none =
     record {
       start = start;
-      opened = elim none.0 [ | inl e ↦ inl e | inr o ↦ inr (file, s, refl, o) ];
+      opened = elim none.0 [ inl e ↦ inl e | inr o ↦ inr (file, s, refl, o) ];
       input = [];
       output = [];
       tally = [];

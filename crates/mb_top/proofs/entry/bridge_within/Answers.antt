@@ -156,7 +156,7 @@ returns-clause-reads_all g c = λ command s tells m reads unhindered short unwan
     (memory-task [] command ∙ unwanted))
     (c.run-status.ensures.ran tells)
     (let ran = c.run-status.ensures.ran tells in
-    ends-plain command _ _ ran.start ran.input ran.output ran.tally _ (plain-reader command s reads) (ran.ends command m))
+    ends-plain command _ (g.D.Desk.contents c.args.desk.now) ran.start ran.input ran.output ran.tally _ (plain-reader command s reads) (ran.ends command m))
 
 pub returns-clause-complete : goal.returns-clause-complete
 returns-clause-complete g c = λ tally first between last tells m unhindered short is_whole.
@@ -270,7 +270,7 @@ returns-clause-records g c = λ s tells m unhindered short is_whole.
     (whole-tape s ((g.D.Desk.contents c.args.desk.now).left 0) is_whole) front)
     (c.run-status.ensures.ran tells)
     (let ran = c.run-status.ensures.ran tells in
-    ends-plain (RecordingTape s) _ _ ran.start ran.input ran.output ran.tally _ refl (ran.ends (RecordingTape s) m)))
+    ends-plain (RecordingTape s) _ (g.D.Desk.contents c.args.desk.now) ran.start ran.input ran.output ran.tally _ refl (ran.ends (RecordingTape s) m)))
 
 pub returns-clause-rewritten_part : goal.returns-clause-rewritten_part
 returns-clause-rewritten_part g c = λ command tells m all four.
@@ -306,7 +306,7 @@ returns-clause-migrates g c = λ tells m unhindered short is_whole.
     (λ g. tape.whole-sound_tape _ input g is_whole front) f)
     (c.run-status.ensures.ran tells)
     (let ran = c.run-status.ensures.ran tells in
-    ends-plain Migrating _ _ ran.start ran.input ran.output ran.tally _ refl (ran.ends Migrating m)))
+    ends-plain Migrating _ (g.D.Desk.contents c.args.desk.now) ran.start ran.input ran.output ran.tally _ refl (ran.ends Migrating m)))
     is_whole (returns-clause-contents g c tells)
 
 pub returns-clause-plays : goal.returns-clause-plays
@@ -322,7 +322,7 @@ returns-clause-plays g c = λ tells m unhindered short ended sound.
     (λ g. whole-sound_file _ input g sound front) f)
     (c.run-status.ensures.ran tells)
     (let ran = c.run-status.ensures.ran tells in
-    ends-plain PlayingFile _ _ ran.start ran.input ran.output ran.tally _ refl (ran.ends PlayingFile m)))
+    ends-plain PlayingFile _ (g.D.Desk.contents c.args.desk.now) ran.start ran.input ran.output ran.tally _ refl (ran.ends PlayingFile m)))
     ended (returns-clause-contents g c tells)
 
 pub returns-clause-guards : goal.returns-clause-guards
@@ -338,15 +338,18 @@ returns-clause-guards g c = λ s tells m unhindered short is_whole.
     (λ told. tape.whole-sound_tape _ input told (whole-tape s ((g.D.Desk.contents c.args.desk.now).left 0) is_whole) front) f)
     (c.run-status.ensures.ran tells)
     (let ran = c.run-status.ensures.ran tells in
-    ends-plain (GuardingTape s) _ _ ran.start ran.input ran.output ran.tally _ refl (ran.ends (GuardingTape s) m)))
+    ends-plain (GuardingTape s) _ (g.D.Desk.contents c.args.desk.now) ran.start ran.input ran.output ran.tally _ refl (ran.ends (GuardingTape s) m)))
     is_whole (returns-clause-contents g c tells)
 
 pub returns-clause-filtered : goal.returns-clause-filtered
 returns-clause-filtered g c = λ file s tells m judged silent.
     let a = returns-clause-contents g c tells in
-    let b = filter-did _ _ _ _ _ _ _ file s m judged silent a in
-    (b.rules, b.got_them, λ other.
-    (carried-task _ _ _ _ _ _ _ (FilteringTape b.rules s) (filter-writes-all b.rules s) other a b.holds).written_is)
+    let b = filter-did _ _ _ _ _ _ _ file s m judged silent a in (
+      b.rules,
+      b.got_them,
+      λ other.
+          (carried-task _ _ _ _ _ _ _ (FilteringTape b.rules s) (filter-writes-all b.rules s) other a b.holds).written_is,
+    )
 
 pub returns-clause-filtered_part : goal.returns-clause-filtered_part
 returns-clause-filtered_part g c = λ file s tells m judged silent.
@@ -357,26 +360,35 @@ returns-clause-filtered_part g c = λ file s tells m judged silent.
 pub returns-clause-filtered_means : goal.returns-clause-filtered_means
 returns-clause-filtered_means g c = λ file s tells m judged silent.
     let a = returns-clause-contents g c tells in
-    let b = filter-did _ _ _ _ _ _ _ file s m judged silent a in
-    (b.rules, b.got_them, λ other early.
-    filtered-meaning b.rules s _ _ _ _
-    (carried-task _ _ _ _ _ _ _ (FilteringTape b.rules s) (filter-writes-all b.rules s) other a b.holds) early)
+    let b = filter-did _ _ _ _ _ _ _ file s m judged silent a in (
+      b.rules,
+      b.got_them,
+      λ other early.
+          filtered-meaning b.rules s _ _ _ _
+          (carried-task _ _ _ _ _ _ _ (FilteringTape b.rules s) (filter-writes-all b.rules s) other a b.holds) early,
+    )
 
 pub returns-clause-filtered_fault : goal.returns-clause-filtered_fault
 returns-clause-filtered_fault g c = λ file s tells m judged silent.
     let a = returns-clause-contents g c tells in
-    let b = filter-did _ _ _ _ _ _ _ file s m judged silent a in
-    (b.rules, b.got_them, λ other.
-    tape-told _ _
-    (carried-task _ _ _ _ _ _ _ (FilteringTape b.rules s) (filter-writes-all b.rules s) other a b.holds).told)
+    let b = filter-did _ _ _ _ _ _ _ file s m judged silent a in (
+      b.rules,
+      b.got_them,
+      λ other.
+          tape-told _ _
+          (carried-task _ _ _ _ _ _ _ (FilteringTape b.rules s) (filter-writes-all b.rules s) other a b.holds).told,
+    )
 
 pub returns-clause-filtered_all : goal.returns-clause-filtered_all
 returns-clause-filtered_all g c = λ file s tells m judged silent.
     let a = returns-clause-contents g c tells in
-    let b = filter-did _ _ _ _ _ _ _ file s m judged silent a in
-    (b.rules, b.got_them, λ all.
-    (carried-task _ _ _ _ _ _ _ (FilteringTape b.rules s) (filter-writes-all b.rules s) (not-four _ all) a
-    b.holds).end all)
+    let b = filter-did _ _ _ _ _ _ _ file s m judged silent a in (
+      b.rules,
+      b.got_them,
+      λ all.
+          (carried-task _ _ _ _ _ _ _ (FilteringTape b.rules s) (filter-writes-all b.rules s) (not-four _ all) a
+          b.holds).end all,
+    )
 
 pub returns-clause-bad_rules : goal.returns-clause-bad_rules
 returns-clause-bad_rules g c = λ file s tells m.
