@@ -19,32 +19,24 @@ while IFS='|' read -r _ file bytes _ becomes _; do
   # what it becomes are the last words in backquotes
   wanted=$(sed 's/.*`\([^`]*\)`[^`]*$/\1/; s/ //g' <<<"$becomes")
   case $file in
-    *.din) specs="din usb:0" ;;
-    *.fw) specs="fw:0 din" ;;
-    *.ble) specs="ble din" ;;
-    *) specs="usb:0 din" ;;
+    *.din) words="convert din usb:0" ;;
+    *.fw) words="convert fw:0 din" ;;
+    *.ble) words="convert ble din" ;;
+    *.mbt) words="filter ${file%.mbt}.rules din" ;;
+    *) words="convert usb:0 din" ;;
   esac
-  found=$("$program" convert $specs <"$file" 2>/dev/null | hex)
+  found=$("$program" $words <"$file" 2>/dev/null | hex)
   [ "$found" = "$wanted" ] || { echo "$file: it becomes $found"; wrong=1; }
-done < <(grep '^| `.*\.\(din\|usb\|fw\|ble\)`' README.md)
+done < <(grep '^| `.*\.\(din\|usb\|fw\|ble\|mbt\)`' README.md)
 
-# The commands that README.md shows, each with the lines below it.
+# The commands that README.md shows, each with the lines below it and what it says on standard error.
 shown=0
-while IFS= read -r command; do
-  shown=$((shown + 1))
-  wanted=$(awk -v command="\$ $command" '$0 == command { on = 1; next } /^[$]|^```/ { on = 0 } on' ../README.md)
-  words=${command#./midibridge }
-  found=$(cd .. && "$program" ${words%% <*} <"${words##*< }")
-  [ "$found" = "$wanted" ] || { echo "README.md, $command: it prints $found"; wrong=1; }
-done < <(sed -n 's/^[$] \(\.\/midibridge .*\)/\1/p' ../README.md)
-
-# The pipelines that it shows, with what they say on standard error.
 while IFS= read -r command; do
   shown=$((shown + 1))
   wanted=$(awk -v command="\$ ${command//\\/\\\\}" '$0 == command { on = 1; next } /^[$]|^```/ { on = 0 } on' ../README.md)
   found=$(cd .. && eval "${command//.\/midibridge/\"\$program\"}" 2>&1)
   [ "$found" = "$wanted" ] || { echo "README.md, $command: it prints $found"; wrong=1; }
-done < <(sed -n 's/^[$] \(printf .*\)/\1/p' ../README.md)
+done < <(sed -n 's/^[$] \(\(\.\/midibridge\|printf\|cat\|od\) .*\)/\1/p' ../README.md)
 
 [ "$rows" -gt 0 ] && [ "$shown" -gt 0 ] || { echo "no rows"; exit 1; }
 [ "$wrong" = 0 ] && echo "$rows examples and $shown commands are as they are shown"

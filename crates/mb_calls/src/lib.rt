@@ -15,6 +15,8 @@ mod din;
 #[cfg(test)]
 mod filter;
 #[cfg(test)]
+mod filtering;
+#[cfg(test)]
 mod fire_reader;
 #[cfg(test)]
 mod fire_writer;

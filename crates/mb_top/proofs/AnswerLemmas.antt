@@ -10,11 +10,18 @@ use Rattle.mb_outside.specs.ContentsLaws.{after_write-none, after_write-twice, a
 use Rattle.mb_message.specs.Front.{IsFront}
 use Rattle.mb_carrier.specs.Carrier.{whole}
 use Rattle.mb_carrier.specs.declared.spec.Spec.{Spec}
-use Rattle.mb_words.specs.Command.{Command, Converting, Listing, Migrating, RecordingTape, PlayingFile, GuardingTape}
-use Rattle.mb_words.specs.Command.{Selftesting, Means}
+use Rattle.mb_words.specs.Command.{CommandOf, Command, Converting, Listing, Migrating, RecordingTape, PlayingFile}
+use Rattle.mb_words.specs.Command.{GuardingTape, FilteringTape, Selftesting, Means}
 use Rattle.mb_words.proofs.CommandLemmas.{one_command}
 use Rattle.mb_top.specs.Output.{ReadsOne, reads_from, writes_to, may_want_memory, answers_notes, is_whole}
-use Rattle.mb_top.specs.Output.{fault_of, reads_file, reads_tape, records, writes_at_stop, LeavesOut, Shows, WantsMemory}
+use Rattle.mb_top.specs.Output.{fault_of, reads_file, reads_tape, takes_rules, tally_of, writes_at_stop, LeavesOut}
+use Rattle.mb_top.specs.Output.{Shows, WantsMemory}
+use Rattle.mb_top.specs.Task.{Task, with_rules}
+use Rattle.mb_filter.specs.declared.rule.Rule.{Rule}
+use Rattle.mb_filter.specs.declared.rules.RulesFault.{RulesFault}
+use Rattle.mb_top.proofs.RulesLemmas.{SameHandles, got-after, none-after, opened-given, opened-same, untouched}
+use Rattle.mb_top.proofs.RulesLemmas.{with_entry-at, with_entry-other, written-nothing}
+use Rattle.mb_top.proofs.TaskLemmas.{did-plain, memory-task, plain-reader, reader-task, reads-task, tape-task}
 use Rattle.mb_smf.specs.declared.writer.SmfFull.{SmfFull}
 use Rattle.mb_smf.specs.declared.writer.SmfFull.TheVariants as full
 use Rattle.std.specs.Prelude.{Some, nat_le}
@@ -22,9 +29,10 @@ use Rattle.mb_frames.specs.declared.tape.TapeFault.{TapeFault}
 use Rattle.mb_smf.specs.declared.fault.SmfFault.{SmfFault}
 use Rattle.mb_top.specs.declared.fault.Fault.{Fault}
 use Rattle.mb_top.specs.declared.fault.Fault.TheVariants as fault
-use Rattle.mb_top.specs.Answer.{Answered, DidAll, Moved, EndsAs, Says, faults_told, taken_off, added_to, code_of}
-use Rattle.mb_top.specs.Answer.{text_of, read_all}
-use Rattle.mb_top.specs.Ran.{CommandRan, RanWords, MayAnswer, MayAnswerWords, Faulted, written_of}
+use Rattle.mb_top.specs.Answer.{Answered, Did, DidAll, DidNothing, IsHandle, Moved, EndsAs, Says, faults_told, taken_off}
+use Rattle.mb_top.specs.Answer.{added_to, code_of, text_of, read_all}
+use Rattle.mb_top.specs.Ran.{CommandMay, CommandRan, EndsCommand, RanNothing, RanWords, MayAnswer, MayAnswerWords}
+use Rattle.mb_top.specs.Ran.{Faulted, written_of}
 use Rattle.mb_top.specs.declared.status.Status.{Status}
 use Rattle.mb_top.specs.declared.status.Status.TheVariants.{Done, Noted, Usage, Cut, Stopped}
 use Rattle.mb_top.specs.declared.status.Stop.TheVariants.{ReadFault, Refused, TooLong, Faulty}
@@ -61,6 +69,7 @@ again (Stopped (Faulty (fault.File f))) other = absurd (wrong other)
 again (Stopped (Faulty fault.LongTrack)) other = absurd (wrong other)
 again (Stopped (Faulty (fault.LongGap was now))) other = absurd (wrong other)
 again (Stopped (Faulty fault.Memory)) other = absurd (wrong other)
+again (Stopped (Faulty (fault.Rules f))) other = absurd (wrong other)
 
 -- but for those of a fault, which are known too
 pub same_status : (s t : Status) → tells_fault (code_of t) ≡ false → code_of s ≡ code_of t → s ≡ t
@@ -80,6 +89,7 @@ bad_tape Cut e = absurd (omega (arith, e))
 bad_tape (Stopped (Faulty fault.LongTrack)) e = absurd (omega (arith, e))
 bad_tape (Stopped (Faulty (fault.LongGap was now))) e = absurd (omega (arith, e))
 bad_tape (Stopped (Faulty fault.Memory)) e = absurd (omega (arith, e))
+bad_tape (Stopped (Faulty (fault.Rules g))) e = absurd (omega (arith, e))
 
 pub bad_file : (s : Status) → code_of s ≡ 13 → (f : SmfFault) × (s ≡ Stopped (Faulty (fault.File f)))
 bad_file (Stopped (Faulty (fault.File f))) e = (f, refl)
@@ -94,6 +104,7 @@ bad_file Cut e = absurd (omega (arith, e))
 bad_file (Stopped (Faulty fault.LongTrack)) e = absurd (omega (arith, e))
 bad_file (Stopped (Faulty (fault.LongGap was now))) e = absurd (omega (arith, e))
 bad_file (Stopped (Faulty fault.Memory)) e = absurd (omega (arith, e))
+bad_file (Stopped (Faulty (fault.Rules g))) e = absurd (omega (arith, e))
 
 pub no_memory : (s : Status) → code_of s ≡ 9 → s ≡ Stopped (Faulty fault.Memory)
 no_memory (Stopped (Faulty fault.Memory)) e = refl
@@ -101,6 +112,7 @@ no_memory (Stopped (Faulty (fault.Tape f))) e = absurd (omega (arith, e))
 no_memory (Stopped (Faulty (fault.File f))) e = absurd (omega (arith, e))
 no_memory (Stopped (Faulty fault.LongTrack)) e = absurd (omega (arith, e))
 no_memory (Stopped (Faulty (fault.LongGap was now))) e = absurd (omega (arith, e))
+no_memory (Stopped (Faulty (fault.Rules g))) e = absurd (omega (arith, e))
 no_memory (Stopped ReadFault) e = absurd (omega (arith, e))
 no_memory (Stopped Refused) e = absurd (omega (arith, e))
 no_memory (Stopped TooLong) e = absurd (omega (arith, e))
@@ -114,6 +126,7 @@ long_track (Stopped (Faulty fault.LongTrack)) e = refl
 long_track (Stopped (Faulty (fault.Tape f))) e = absurd (omega (arith, e))
 long_track (Stopped (Faulty (fault.File f))) e = absurd (omega (arith, e))
 long_track (Stopped (Faulty fault.Memory)) e = absurd (omega (arith, e))
+long_track (Stopped (Faulty (fault.Rules g))) e = absurd (omega (arith, e))
 long_track (Stopped (Faulty (fault.LongGap was now))) e = absurd (omega (arith, e))
 long_track (Stopped ReadFault) e = absurd (omega (arith, e))
 long_track (Stopped Refused) e = absurd (omega (arith, e))
@@ -129,6 +142,7 @@ long_gap (Stopped (Faulty (fault.LongGap was now))) e = (was, now, refl)
 long_gap (Stopped (Faulty (fault.Tape f))) e = absurd (omega (arith, e))
 long_gap (Stopped (Faulty (fault.File f))) e = absurd (omega (arith, e))
 long_gap (Stopped (Faulty fault.Memory)) e = absurd (omega (arith, e))
+long_gap (Stopped (Faulty (fault.Rules g))) e = absurd (omega (arith, e))
 long_gap (Stopped (Faulty fault.LongTrack)) e = absurd (omega (arith, e))
 long_gap (Stopped ReadFault) e = absurd (omega (arith, e))
 long_gap (Stopped Refused) e = absurd (omega (arith, e))
@@ -137,6 +151,21 @@ long_gap Done e = absurd (omega (arith, e))
 long_gap Noted e = absurd (omega (arith, e))
 long_gap Usage e = absurd (omega (arith, e))
 long_gap Cut e = absurd (omega (arith, e))
+
+pub bad_rules : (s : Status) → code_of s ≡ 14 → (f : RulesFault) × (s ≡ Stopped (Faulty (fault.Rules f)))
+bad_rules (Stopped (Faulty (fault.Rules f))) e = (f, refl)
+bad_rules (Stopped (Faulty (fault.Tape g))) e = absurd (omega (arith, e))
+bad_rules (Stopped (Faulty (fault.File g))) e = absurd (omega (arith, e))
+bad_rules (Stopped (Faulty fault.Memory)) e = absurd (omega (arith, e))
+bad_rules (Stopped (Faulty fault.LongTrack)) e = absurd (omega (arith, e))
+bad_rules (Stopped (Faulty (fault.LongGap was now))) e = absurd (omega (arith, e))
+bad_rules (Stopped ReadFault) e = absurd (omega (arith, e))
+bad_rules (Stopped Refused) e = absurd (omega (arith, e))
+bad_rules (Stopped TooLong) e = absurd (omega (arith, e))
+bad_rules Done e = absurd (omega (arith, e))
+bad_rules Noted e = absurd (omega (arith, e))
+bad_rules Usage e = absurd (omega (arith, e))
+bad_rules Cut e = absurd (omega (arith, e))
 
 pub other_status : (s t : Status) → (code_of s ≡ code_of t → ⊥) → s ≡ t → ⊥
 other_status s t other e = other (ap code_of e)
@@ -151,6 +180,7 @@ at_the_end claim done noted cut Usage e = absurd (wrong (sym e))
 at_the_end claim done noted cut (Stopped (Faulty fault.LongTrack)) e = absurd (wrong (sym e))
 at_the_end claim done noted cut (Stopped (Faulty (fault.LongGap was now))) e = absurd (wrong (sym e))
 at_the_end claim done noted cut (Stopped (Faulty fault.Memory)) e = absurd (wrong (sym e))
+at_the_end claim done noted cut (Stopped (Faulty (fault.Rules f))) e = absurd (wrong (sym e))
 at_the_end claim done noted cut (Stopped ReadFault) e = absurd (wrong (sym e))
 at_the_end claim done noted cut (Stopped Refused) e = absurd (wrong (sym e))
 at_the_end claim done noted cut (Stopped TooLong) e = absurd (wrong (sym e))
@@ -158,14 +188,6 @@ at_the_end claim done noted cut (Stopped (Faulty (fault.Tape f))) e = absurd (wr
 at_the_end claim done noted cut (Stopped (Faulty (fault.File f))) e = absurd (wrong (sym e))
 
 -- what a caller sees of what was read, written and said
-
-with_entry-other : (entries : ℕ → List ℕ) (handle : ℕ) (bytes : List ℕ) (other : ℕ) → (other == handle) ≡ false →
-    with_entry entries handle bytes other ≡ entries other
-with_entry-other entries handle bytes other e = ap (λ (t : Bool). if t then bytes else entries other) e
-
-with_entry-at : (entries : ℕ → List ℕ) (handle : ℕ) (bytes : List ℕ) (other : ℕ) → (other == handle) ≡ true →
-    with_entry entries handle bytes other ≡ bytes
-with_entry-at entries handle bytes other e = ap (λ (t : Bool). if t then bytes else entries other) e
 
 handle-is : (other handle : ℕ) → (other == handle) ≡ true → other ≡ handle
 handle-is other handle e = grind (arith, nat_tests)
@@ -228,15 +250,37 @@ added-at input output words before handle = by_tests (handle == 2) (handle == 1)
         ∙ (behind_all (before.written handle) ∙ sym (ap (λ (t : Bool). if t then words else
         (if handle == 1 then output else [])) e ∙ ap (λ (t : Bool). if t then output else []) f))
 
-moved : (input output words : List ℕ) (before : Contents) → IsFront input (before.left 0) →
-    Moved before (written_of input output words before)
-moved input output words before f =
+-- the same where the rules' file was opened before: the desk's own handles stood as they stood
+
+taken-seen : (input output words : List ℕ) (before start : Contents) (handle : ℕ) → SameHandles before start →
+    IsHandle before handle → IsFront input (start.left 0) →
+    taken_off handle before (written_of input output words start) ≡ seen_at input handle
+taken-seen input output words before start handle same h f =
+    ap (λ (xs : List ℕ). drop (length xs) ((written_of input output words start).taken handle)) (sym (same.taken handle h))
+    ∙ taken-at input output words start handle f
+
+added-seen : (input output words : List ℕ) (before start : Contents) (handle : ℕ) → SameHandles before start →
+    IsHandle before handle → added_to handle before (written_of input output words start) ≡ written_at output words handle
+added-seen input output words before start handle same h =
+    ap (λ (xs : List ℕ). drop (length xs) ((written_of input output words start).written handle))
+    (sym (same.written handle h))
+    ∙ added-at input output words start handle
+
+moved : (input output words : List ℕ) (first before : Contents) → SameHandles first before →
+    IsFront input (before.left 0) → Moved first (written_of input output words before)
+moved input output words first before same f =
     record {
-      left = λ handle. left-at handle (handle == 0) refl
-          ∙ ap (λ (xs : List ℕ). xs ++ after.left handle) (sym (taken-at input output words before handle f));
-      taken = λ handle. behind (before.taken handle) (after.taken handle) (taken-front handle (handle == 0) refl);
-      written = λ handle. behind (before.written handle) (after.written handle)
-          (written-front handle (handle == 2) (handle == 1) refl refl);
+      left = λ handle h.
+          sym (same.left handle h) ∙ (left-at handle (handle == 0) refl
+          ∙ ap (λ (xs : List ℕ). xs ++ after.left handle) (sym (taken-seen input output words first before handle same h f)));
+      taken = λ handle h.
+          behind (first.taken handle) (after.taken handle)
+          (subst (λ (xs : List ℕ). IsFront xs (after.taken handle)) (same.taken handle h)
+          (taken-front handle (handle == 0) refl));
+      written = λ handle h.
+          behind (first.written handle) (after.written handle)
+          (subst (λ (xs : List ℕ). IsFront xs (after.written handle)) (same.written handle h)
+          (written-front handle (handle == 2) (handle == 1) refl refl));
     }
   where
     after : Contents
@@ -293,13 +337,14 @@ moved input output words before f =
 
 -- the handles of a command
 
-only_writes : (c : Command) (handle : ℕ) → writes_to c handle ≡ false → ((handle == 1) || (handle == 2)) ≡ false
+only_writes : {R : Type 0} (c : CommandOf R) (handle : ℕ) → writes_to c handle ≡ false → ((handle == 1) || (handle == 2)) ≡ false
 only_writes (Converting tally first between last) handle e = e
 only_writes (Listing traced s) handle e = e
 only_writes Migrating handle e = e
 only_writes (RecordingTape s) handle e = e
 only_writes PlayingFile handle e = e
 only_writes (GuardingTape s) handle e = e
+only_writes (FilteringTape rules s) handle e = e
 only_writes (Selftesting start count) handle e = e
 
 unread : (input : List ℕ) (handle : ℕ) → (handle == 0) ≡ false → seen_at input handle ≡ []
@@ -313,7 +358,7 @@ none-read input handle e = ap (λ (xs : List ℕ). seen_at xs handle) e ∙ by_t
     by_test false = refl
 
 -- a command that reads nothing read none
-unread-by : (c : Command) (input : List ℕ) (handle : ℕ) → (reads_from c 0 ≡ false → input ≡ []) →
+unread-by : {R : Type 0} (c : CommandOf R) (input : List ℕ) (handle : ℕ) → (reads_from c 0 ≡ false → input ≡ []) →
     reads_from c handle ≡ false → seen_at input handle ≡ []
 unread-by (Converting tally first between last) input handle none e = unread input handle e
 unread-by (Listing traced s) input handle none e = unread input handle e
@@ -321,6 +366,7 @@ unread-by Migrating input handle none e = unread input handle e
 unread-by (RecordingTape s) input handle none e = unread input handle e
 unread-by PlayingFile input handle none e = unread input handle e
 unread-by (GuardingTape s) input handle none e = unread input handle e
+unread-by (FilteringTape rules s) input handle none e = unread input handle e
 unread-by (Selftesting start count) input handle none e = none-read input handle (none refl)
 
 unwritten : (output words : List ℕ) (handle : ℕ) → ((handle == 1) || (handle == 2)) ≡ false →
@@ -359,54 +405,85 @@ answered quiet words limit before mid after reads reads_mid faults faults_mid fa
     wrote says told =
     subst (λ (c : Contents). Answered words limit before c faults faults_now answer) (sym all)
     (record {
-      moved = moved r.input r.output (r.tally ++ text) before r.front;
-      given = refl;
+      moved = moved r.input r.output (r.tally ++ text) before r.start same front;
+      given = elim r.opened [
+        | inl e ↦ inl (ap (λ (c : Contents). c.given) e)
+        | inr o ↦ inr (o.0, o.1, o.2, opened-given o.0 before r.start o.3)
+      ];
       status = status;
       number = number;
       tally = r.tally;
       said = text;
-      nothing = λ e.
-          let n = r.nothing e in
-          record {
-            keeps = record {
-              unread = λ handle f. taken-at r.input r.output (r.tally ++ text) before handle r.front
-                  ∙ none-read r.input handle n.0;
-              unwritten = λ handle f. added-at r.input r.output (r.tally ++ text) before handle
-                  ∙ none-written r.output (r.tally ++ text) handle n.1 f;
-            };
-            no_tally = n.2;
-          };
+      nothing = λ e. did_nothing (r.nothing e);
       did = λ c m.
-          record {
-            keeps = record {
-              unread = λ handle f. taken-at r.input r.output (r.tally ++ text) before handle r.front
-                  ∙ unread-by c r.input handle (r.unread c m) f;
-              unwritten = λ handle f. added-at r.input r.output (r.tally ++ text) before handle
-                  ∙ unwritten r.output (r.tally ++ text) handle (only_writes c handle f);
-            };
-            within = subst (λ (xs : List ℕ). length xs ≤ limit) (sym input) r.within;
-            ends =
-                subst (λ (xs : List ℕ). EndsAs c limit (before.left 0) xs
-                (added_to 1 before all_written) r.tally status) (sym input)
-                (subst (λ (xs : List ℕ). EndsAs c limit (before.left 0) r.input xs r.tally status) (sym output)
-                (r.ends c m));
-          };
-      on_error = added-at r.input r.output (r.tally ++ text) before 2;
+          elim (r.ends c m) [
+            | inl b ↦ inl (record {
+              rules = b.rules;
+              got_them = got-after c b.rules r.input r.output (r.tally ++ text) before r.start b.got_them;
+              holds = did_all (with_rules b.rules c)
+                  (λ none. r.unread c m (sym (reads-task b.rules c 0) ∙ none)) b.holds;
+            })
+            | inr n ↦ inr (
+              did_nothing n.0,
+              none-after c status r.input r.output (r.tally ++ text) before r.start n.1,
+            )
+          ];
+      on_error = added-seen r.input r.output (r.tally ++ text) before r.start 2 same (omega arith);
       text = says-earlier faults faults_mid faults_now status text reads reads_mid fault says;
       untold = λ other all_said. told all_said ∙ fault.unwritten other;
     })
   where
     all_written : Contents
-    all_written = written_of r.input r.output (r.tally ++ text) before
+    all_written = written_of r.input r.output (r.tally ++ text) r.start
 
     all : after ≡ all_written
-    all = wrote ∙ (ap (after_write 2 text) r.contents ∙ written-behind r.input r.output r.tally text before)
+    all = wrote ∙ (ap (after_write 2 text) r.contents ∙ written-behind r.input r.output r.tally text r.start)
+
+    same : SameHandles before r.start
+    same = elim r.opened [ inl e ↦ untouched before r.start e | inr o ↦ opened-same o.0 before r.start o.3 ]
+
+    front : IsFront r.input (r.start.left 0)
+    front = subst (IsFront r.input) (sym (same.left 0 (omega arith))) r.front
 
     input : taken_off 0 before all_written ≡ r.input
-    input = taken-at r.input r.output (r.tally ++ text) before 0 r.front
+    input = taken-seen r.input r.output (r.tally ++ text) before r.start 0 same (omega arith) front
 
     output : added_to 1 before all_written ≡ r.output
-    output = added-at r.input r.output (r.tally ++ text) before 1
+    output = added-seen r.input r.output (r.tally ++ text) before r.start 1 same (omega arith)
+
+    did_nothing : RanNothing r.input r.output r.tally → DidNothing before all_written r.tally
+    did_nothing n =
+        record {
+          keeps = record {
+            unread = λ handle h f.
+                taken-seen r.input r.output (r.tally ++ text) before r.start handle same h front
+                ∙ none-read r.input handle n.0;
+            unwritten = λ handle h f.
+                added-seen r.input r.output (r.tally ++ text) before r.start handle same h
+                ∙ none-written r.output (r.tally ++ text) handle n.1 f;
+          };
+          no_tally = n.2;
+        }
+
+    did_all : (t : Task) → (reads_from t 0 ≡ false → r.input ≡ []) →
+        EndsAs t limit (before.left 0) r.input r.output r.tally status →
+        Did t limit before all_written r.tally status
+    did_all t none ends =
+        record {
+          keeps = record {
+            unread = λ handle h f.
+                taken-seen r.input r.output (r.tally ++ text) before r.start handle same h front
+                ∙ unread-by t r.input handle none f;
+            unwritten = λ handle h f.
+                added-seen r.input r.output (r.tally ++ text) before r.start handle same h
+                ∙ unwritten r.output (r.tally ++ text) handle (only_writes t handle f);
+          };
+          within = subst (λ (xs : List ℕ). length xs ≤ limit) (sym input) r.within;
+          ends =
+              subst (λ (xs : List ℕ). EndsAs t limit (before.left 0) xs
+              (added_to 1 before all_written) r.tally status) (sym input)
+              (subst (λ (xs : List ℕ). EndsAs t limit (before.left 0) r.input xs r.tally status) (sym output) ends);
+        }
 
     -- how many faults a status tells: one where writing was refused
     by_told : (s : Status) → (s ≡ Stopped Refused) ⊎ (faults_told s ≡ 0)
@@ -442,19 +519,24 @@ answered quiet words limit before mid after reads reads_mid faults faults_mid fa
 -- a command that was carried out is what its words mean
 
 pub ran-words : (c : Command) (words : List (List ℕ)) (limit : ℕ) (before after : Contents) (status : Status) →
-    Means words c → MayAnswer c status → CommandRan c limit before after status → RanWords words limit before after status
-ran-words c words limit before after status m may carried =
-    let r = carried.ran in
+    Means words c → CommandMay c status → CommandRan c limit before after status →
+    RanWords words limit before after status
+ran-words c words limit before after status m may r =
     record {
+      start = r.start;
+      opened = elim r.opened [
+        | inl e ↦ inl e
+        | inr o ↦ inr (o.0, o.1, subst (Means words) o.2 m, o.3)
+      ];
       input = r.input;
       output = r.output;
       tally = r.tally;
       contents = r.contents;
       front = r.front;
-      nothing = λ e. absurd (subst (MayAnswer c) e may);
-      unread = λ d n e. carried.unread (ap (λ (x : Command). reads_from x 0) (one_command words c d m n) ∙ e);
+      nothing = λ e. absurd (subst (MayAnswer (with_rules may.rules c)) e may.may);
+      unread = λ d n e. r.unread (ap (λ (x : Command). reads_from x 0) (one_command words c d m n) ∙ e);
       within = r.within;
-      ends = λ d n. subst (λ (x : Command). EndsAs x limit (before.left 0) r.input r.output r.tally status)
+      ends = λ d n. subst (λ (x : Command). EndsCommand x limit before r.start r.input r.output r.tally status)
           (one_command words c d m n) r.ends;
     }
 
@@ -462,11 +544,12 @@ pub ran-usage : (words : List (List ℕ)) (limit : ℕ) (before : Contents) → 
     RanWords words limit before before Usage
 ran-usage words limit before none =
     record {
+      start = before;
+      opened = inl refl;
       input = [];
       output = [];
       tally = [];
-      contents = sym (after_write-none 2 (after_write 1 [] (after_read 0 0 before))
-          ∙ (after_write-none 1 (after_read 0 0 before) ∙ after_read-none 0 before));
+      contents = sym (written-nothing before);
       front = (before.left 0, refl);
       nothing = λ e. (refl, refl, refl);
       unread = λ c m e. refl;
@@ -474,13 +557,13 @@ ran-usage words limit before none =
       ends = λ c m. absurd (none c m);
     }
 
-pub may-words : (c : Command) (words : List (List ℕ)) (status : Status) → Means words c → MayAnswer c status →
+pub may-words : (c : Command) (words : List (List ℕ)) (status : Status) → Means words c → CommandMay c status →
     MayAnswerWords words status
-may-words c words status m may = record {
-  usage = λ e. absurd (subst (MayAnswer c) e may);
-  other = λ not_usage.
-      (c, m, may);
-}
+may-words c words status m may =
+    record {
+      usage = λ e. absurd (subst (MayAnswer (with_rules may.rules c)) e may.may);
+      other = λ not_usage. (c, m, may);
+    }
 
 -- a command is quiet where all that the words mean are
 pub quiet-words : (c : Command) (words : List (List ℕ)) (reads reads_now writes writes_now : ℕ) (status : Status) →
@@ -499,52 +582,101 @@ quiet-words c words reads reads_now writes writes_now status m f =
 -- what the answer says of a command
 
 pub ends-at_status : (words : List (List ℕ)) (limit : ℕ) (before after : Contents) (faults faults_now answer : ℕ)
-    (c : Command) (status : Status) → tells_fault (code_of status) ≡ false →
+    (c : Command) (status : Status) → takes_rules c ≡ false → tells_fault (code_of status) ≡ false →
     answer ≡ code_of status → Means words c → (a : Answered words limit before after faults faults_now answer) →
-    EndsAs c limit (before.left 0) (taken_off 0 before after) (added_to 1 before after) a.tally status
-ends-at_status words limit before after faults faults_now answer c status other e m a =
-    subst (EndsAs c limit (before.left 0) (taken_off 0 before after) (added_to 1 before after) a.tally)
-    (same_status a.status status other (sym a.number ∙ e)) (a.did c m).ends
+    EndsAs (with_rules [] c) limit (before.left 0) (taken_off 0 before after) (added_to 1 before after) a.tally status
+ends-at_status words limit before after faults faults_now answer c status plain other e m a =
+    subst (EndsAs (with_rules [] c) limit (before.left 0) (taken_off 0 before after) (added_to 1 before after) a.tally)
+    (same_status a.status status other (sym a.number ∙ e))
+    (did-plain c limit before after a.tally a.status plain (a.did c m)).ends
+
+-- of a task, whatever rules it has
+pub went_through-task : (words : List (List ℕ)) (limit : ℕ) (before after : Contents) (faults faults_now answer : ℕ)
+    (t : Task) → read_all answer ≡ true → (a : Answered words limit before after faults faults_now answer) →
+    Did t limit before after a.tally a.status →
+    DidAll t limit (before.left 0) (taken_off 0 before after) (added_to 1 before after) a.tally
+went_through-task words limit before after faults faults_now answer t all a did =
+    at_the_end
+    (λ s. EndsAs t limit (before.left 0) (taken_off 0 before after) (added_to 1 before after) a.tally s →
+    DidAll t limit (before.left 0) (taken_off 0 before after) (added_to 1 before after) a.tally)
+    (λ ends. ends.0) (λ ends. ends.0) (λ ends. ends.0) a.status (sym (ap read_all a.number) ∙ all) did.ends
 
 pub went_through : (words : List (List ℕ)) (limit : ℕ) (before after : Contents) (faults faults_now answer : ℕ)
-    (c : Command) →
+    (c : Command) → takes_rules c ≡ false →
     read_all answer ≡ true → Means words c → (a : Answered words limit before after faults faults_now answer) →
-    DidAll c limit (before.left 0) (taken_off 0 before after) (added_to 1 before after) a.tally
-went_through words limit before after faults faults_now answer c all m a =
-    at_the_end
-    (λ s. EndsAs c limit (before.left 0) (taken_off 0 before after) (added_to 1 before after) a.tally s →
-    DidAll c limit (before.left 0) (taken_off 0 before after) (added_to 1 before after) a.tally)
-    (λ ends. ends.0) (λ ends. ends.0) (λ ends. ends.0) a.status (sym (ap read_all a.number) ∙ all) (a.did c m).ends
+    DidAll (with_rules [] c) limit (before.left 0) (taken_off 0 before after) (added_to 1 before after) a.tally
+went_through words limit before after faults faults_now answer c plain all m a =
+    went_through-task words limit before after faults faults_now answer (with_rules [] c) all a
+    (did-plain c limit before after a.tally a.status plain (a.did c m))
 
-is_whole-of : (c : Command) (s : Spec) (input : List ℕ) → ReadsOne c s → is_whole c input ≡ whole s input
+-- the tally that was asked for stands first on standard error
+
+tally-first : (words : List (List ℕ)) (limit : ℕ) (before after : Contents) (faults faults_now answer : ℕ)
+    (given : List ℕ) → (a : Answered words limit before after faults faults_now answer) → a.tally ≡ given →
+    IsFront given (added_to 2 before after)
+tally-first words limit before after faults faults_now answer given a e =
+    (a.said, a.on_error ∙ ap (λ (xs : List ℕ). xs ++ a.said) e)
+
+pub tallied : (words : List (List ℕ)) (limit : ℕ) (before after : Contents) (faults faults_now answer : ℕ)
+    (c : Command) → read_all answer ≡ true → Means words c →
+    Answered words limit before after faults faults_now answer →
+    IsFront (tally_of c (taken_off 0 before after)) (added_to 2 before after)
+tallied words limit before after faults faults_now answer (FilteringTape file s) all m a =
+    (added_to 2 before after, refl)
+tallied words limit before after faults faults_now answer (Converting tally first between last) all m a =
+    tally-first words limit before after faults faults_now answer _ a
+    (went_through words limit before after faults faults_now answer (Converting tally first between last) refl all m a).tally_is
+tallied words limit before after faults faults_now answer (Listing traced s) all m a =
+    tally-first words limit before after faults faults_now answer _ a
+    (went_through words limit before after faults faults_now answer (Listing traced s) refl all m a).tally_is
+tallied words limit before after faults faults_now answer Migrating all m a =
+    tally-first words limit before after faults faults_now answer _ a
+    (went_through words limit before after faults faults_now answer Migrating refl all m a).tally_is
+tallied words limit before after faults faults_now answer (RecordingTape s) all m a =
+    tally-first words limit before after faults faults_now answer _ a
+    (went_through words limit before after faults faults_now answer (RecordingTape s) refl all m a).tally_is
+tallied words limit before after faults faults_now answer PlayingFile all m a =
+    tally-first words limit before after faults faults_now answer _ a
+    (went_through words limit before after faults faults_now answer PlayingFile refl all m a).tally_is
+tallied words limit before after faults faults_now answer (GuardingTape s) all m a =
+    tally-first words limit before after faults faults_now answer _ a
+    (went_through words limit before after faults faults_now answer (GuardingTape s) refl all m a).tally_is
+tallied words limit before after faults faults_now answer (Selftesting start count) all m a =
+    tally-first words limit before after faults faults_now answer _ a
+    (went_through words limit before after faults faults_now answer (Selftesting start count) refl all m a).tally_is
+
+is_whole-of : {R : Type 0} (c : CommandOf R) (s : Spec) (input : List ℕ) → ReadsOne c s → is_whole c input ≡ whole s input
 is_whole-of (Converting tally first between last) s input e = ap (λ (t : Spec). whole t input) (sym e)
 is_whole-of (Listing traced t) s input e = ap (λ (u : Spec). whole u input) (sym e)
 is_whole-of Migrating s input e = absurd e
 is_whole-of (RecordingTape t) s input e = absurd e
 is_whole-of PlayingFile s input e = absurd e
 is_whole-of (GuardingTape t) s input e = absurd e
+is_whole-of (FilteringTape rules t) s input e = absurd e
 is_whole-of (Selftesting start count) s input e = absurd e
 
 -- a recording that is no tape has no fault
-no_fault-of : (c : Command) (s : Spec) (input : List ℕ) (f : Fault) → ReadsOne c s → fault_of c input ≡ Some f → ⊥
+no_fault-of : {R : Type 0} (c : CommandOf R) (s : Spec) (input : List ℕ) (f : Fault) → ReadsOne c s → fault_of c input ≡ Some f → ⊥
 no_fault-of (Converting tally first between last) s input f reads e = cc
 no_fault-of (Listing traced t) s input f reads e = cc
 no_fault-of Migrating s input f reads e = reads
 no_fault-of (RecordingTape t) s input f reads e = reads
 no_fault-of PlayingFile s input f reads e = reads
 no_fault-of (GuardingTape t) s input f reads e = reads
+no_fault-of (FilteringTape rules t) s input f reads e = reads
 no_fault-of (Selftesting start count) s input f reads e = reads
 
-leaves_none : (c : Command) (s : Spec) (input : List ℕ) (why : SmfFull) → ReadsOne c s → LeavesOut c input why → ⊥
+leaves_none : {R : Type 0} (c : CommandOf R) (s : Spec) (input : List ℕ) (why : SmfFull) → ReadsOne c s → LeavesOut c input why → ⊥
 leaves_none (Converting tally first between last) s input why reads e = e
 leaves_none (Listing traced t) s input why reads e = e
 leaves_none Migrating s input why reads e = e
 leaves_none (RecordingTape t) s input why reads e = reads
 leaves_none PlayingFile s input why reads e = e
 leaves_none (GuardingTape t) s input why reads e = e
+leaves_none (FilteringTape rules t) s input why reads e = e
 leaves_none (Selftesting start count) s input why reads e = e
 
-wants_none : (c : Command) (s : Spec) (input : List ℕ) → ReadsOne c s → may_want_memory c ≡ false →
+wants_none : {R : Type 0} (c : CommandOf R) (s : Spec) (input : List ℕ) → ReadsOne c s → may_want_memory c ≡ false →
     WantsMemory c input → ⊥
 wants_none (Converting tally first between last) s input reads w e = wrong (sym (e.0) ∙ w)
 wants_none (Listing traced t) s input reads w e = wrong (sym (e.0) ∙ w)
@@ -552,31 +684,34 @@ wants_none Migrating s input reads w e = reads
 wants_none (RecordingTape t) s input reads w e = reads
 wants_none PlayingFile s input reads w e = reads
 wants_none (GuardingTape t) s input reads w e = reads
+wants_none (FilteringTape rules t) s input reads w e = reads
 wants_none (Selftesting start count) s input reads w e = reads
 
-pub no_fault : (c : Command) (s : Spec) (input : List ℕ) (f : Fault) → ReadsOne c s → may_want_memory c ≡ false →
+pub no_fault : {R : Type 0} (c : CommandOf R) (s : Spec) (input : List ℕ) (f : Fault) → ReadsOne c s → may_want_memory c ≡ false →
     Shows c input f → ⊥
 no_fault c s input (fault.Tape f) reads w e = no_fault-of c s input (fault.Tape f) reads e
 no_fault c s input (fault.File f) reads w e = no_fault-of c s input (fault.File f) reads e
 no_fault c s input fault.LongTrack reads w e = leaves_none c s input full.Track reads e
 no_fault c s input (fault.LongGap was now) reads w e = leaves_none c s input (full.Gap was now) reads e
 no_fault c s input fault.Memory reads w e = wants_none c s input reads w e
+no_fault c s input (fault.Rules f) reads w e = e
 
-pub one-reads : (c : Command) (s : Spec) → ReadsOne c s → reads_from c 0 ≡ true
+pub one-reads : {R : Type 0} (c : CommandOf R) (s : Spec) → ReadsOne c s → reads_from c 0 ≡ true
 one-reads (Converting tally first between last) s e = refl
 one-reads (Listing traced t) s e = refl
 one-reads Migrating s e = absurd e
 one-reads (RecordingTape t) s e = absurd e
 one-reads PlayingFile s e = absurd e
 one-reads (GuardingTape t) s e = absurd e
+one-reads (FilteringTape rules t) s e = absurd e
 one-reads (Selftesting start count) s e = absurd e
 
 -- at the end, it is 5 exactly where the input stops inside a packet
-pub cut-at_end : (words : List (List ℕ)) (limit : ℕ) (before after : Contents) (faults faults_now answer : ℕ)
-    (c : Command) (s : Spec) → ReadsOne c s →
-    read_all answer ≡ true → Means words c → (a : Answered words limit before after faults faults_now answer) →
-    (answer ≡ 5) ↔ (whole s (before.left 0) ≡ false)
-cut-at_end words limit before after faults faults_now answer c s reads all m a =
+cut-task : (words : List (List ℕ)) (limit : ℕ) (before after : Contents) (faults faults_now answer : ℕ)
+    (c : Task) (s : Spec) → ReadsOne c s →
+    read_all answer ≡ true → (a : Answered words limit before after faults faults_now answer) →
+    Did c limit before after a.tally a.status → (answer ≡ 5) ↔ (whole s (before.left 0) ≡ false)
+cut-task words limit before after faults faults_now answer c s reads all a did =
     subst (λ (n : ℕ). (n ≡ 5) ↔ (whole s (before.left 0) ≡ false)) (sym a.number)
     (at_the_end
     (λ t. EndsAs c limit (before.left 0) (taken_off 0 before after) (added_to 1 before after) a.tally t →
@@ -584,10 +719,10 @@ cut-at_end words limit before after faults faults_now answer c s reads all m a =
     (λ ends. (λ n. absurd (omega (arith, n)), λ h. absurd (wrong (sym (ends.1) ∙ cut h))))
     (λ ends. (λ n. absurd (omega (arith, n)), λ h. absurd (wrong (sym (ends.1) ∙ cut h))))
     (λ ends. (λ n. sym same ∙ ends.1, λ h. refl))
-    a.status (sym (ap read_all a.number) ∙ all) (a.did c m).ends)
+    a.status (sym (ap read_all a.number) ∙ all) did.ends)
   where
     went : DidAll c limit (before.left 0) (taken_off 0 before after) (added_to 1 before after) a.tally
-    went = went_through words limit before after faults faults_now answer c all m a
+    went = went_through-task words limit before after faults faults_now answer c all a did
 
     same : is_whole c (taken_off 0 before after) ≡ whole s (before.left 0)
     same = ap (is_whole c) (sym (went.all (one-reads c s reads))) ∙ is_whole-of c s (before.left 0) reads
@@ -595,26 +730,35 @@ cut-at_end words limit before after faults faults_now answer c s reads all m a =
     cut : whole s (before.left 0) ≡ false → is_whole c (taken_off 0 before after) ≡ false
     cut h = same ∙ h
 
+pub cut-at_end : (words : List (List ℕ)) (limit : ℕ) (before after : Contents) (faults faults_now answer : ℕ)
+    (c : Command) (s : Spec) → ReadsOne c s →
+    read_all answer ≡ true → Means words c → (a : Answered words limit before after faults faults_now answer) →
+    (answer ≡ 5) ↔ (whole s (before.left 0) ≡ false)
+cut-at_end words limit before after faults faults_now answer c s reads all m a =
+    cut-task words limit before after faults faults_now answer (with_rules [] c) s (reader-task c s reads) all a
+    (did-plain c limit before after a.tally a.status (plain-reader c s reads) (a.did c m))
+
 -- an answer that is none of the others comes at the end
 pub reads_all : (words : List (List ℕ)) (limit : ℕ) (before after : Contents) (reads writes : Type 0)
-    (status : Status) (c : Command) →
+    (status : Status) (c : Command) (t : Task) →
     Means words c → MayAnswerWords words status →
     (status ≡ Stopped ReadFault → reads) → (status ≡ Stopped Refused → writes) → (reads → ⊥) → (writes → ⊥) →
     length (before.left 0) < limit →
-    ((input : List ℕ) (g : Fault) → IsFront input (before.left 0) → Shows c input g → ⊥) →
-    RanWords words limit before after status → read_all (code_of status) ≡ true
-reads_all words limit before after reads writes Done c m may r f nr nw short sound ran = refl
-reads_all words limit before after reads writes Noted c m may r f nr nw short sound ran = refl
-reads_all words limit before after reads writes Usage c m may r f nr nw short sound ran = absurd (may.usage refl c m)
-reads_all words limit before after reads writes Cut c m may r f nr nw short sound ran = refl
-reads_all words limit before after reads writes (Stopped ReadFault) c m may r f nr nw short sound ran =
+    ((input : List ℕ) (g : Fault) → IsFront input (before.left 0) → Shows t input g → ⊥) →
+    (ran : RanWords words limit before after status) →
+    EndsAs t limit (before.left 0) ran.input ran.output ran.tally status → read_all (code_of status) ≡ true
+reads_all words limit before after reads writes Done c t m may r f nr nw short sound ran ends = refl
+reads_all words limit before after reads writes Noted c t m may r f nr nw short sound ran ends = refl
+reads_all words limit before after reads writes Usage c t m may r f nr nw short sound ran ends = absurd (may.usage refl c m)
+reads_all words limit before after reads writes Cut c t m may r f nr nw short sound ran ends = refl
+reads_all words limit before after reads writes (Stopped ReadFault) c t m may r f nr nw short sound ran ends =
     absurd (nr (r refl))
-reads_all words limit before after reads writes (Stopped Refused) c m may r f nr nw short sound ran =
+reads_all words limit before after reads writes (Stopped Refused) c t m may r f nr nw short sound ran ends =
     absurd (nw (f refl))
-reads_all words limit before after reads writes (Stopped TooLong) c m may r f nr nw short sound ran =
-    absurd (omega (arith, short, (ran.ends c m).0, ap length (ran.front).1, length-append ran.input (ran.front).0))
-reads_all words limit before after reads writes (Stopped (Faulty g)) c m may r f nr nw short sound ran =
-    absurd (sound ran.input g ran.front (ran.ends c m).2)
+reads_all words limit before after reads writes (Stopped TooLong) c t m may r f nr nw short sound ran ends =
+    absurd (omega (arith, short, ends.0, ap length (ran.front).1, length-append ran.input (ran.front).0))
+reads_all words limit before after reads writes (Stopped (Faulty g)) c t m may r f nr nw short sound ran ends =
+    absurd (sound ran.input g ran.front ends.2)
 
 -- of a conversion of a whole input, that is 0
 pub completes : (words : List (List ℕ)) (limit : ℕ) (before after : Contents) (faults faults_now answer : ℕ)
@@ -628,29 +772,47 @@ completes words limit before after faults faults_now answer tally first between 
     (added_to 1 before after) a.tally t → code_of t ≡ 0)
     (λ ends. refl) (λ ends. absurd (ends.2))
     (λ ends. absurd (wrong (sym is ∙ (ap (whole first) ((ends.0).all refl) ∙ ends.1))))
-    a.status (sym (ap read_all a.number) ∙ all) ((a.did (Converting tally first between last) m).ends)
+    a.status (sym (ap read_all a.number) ∙ all)
+    (did-plain (Converting tally first between last) limit before after a.tally a.status refl
+    (a.did (Converting tally first between last) m)).ends
 
 -- statuses that only some commands have
 
-pub means-noted : (words : List (List ℕ)) (c : Command) → Means words c → answers_notes c ≡ true → (s : Spec) ×
-    Means words (Listing false s)
-means-noted words (Converting tally first between last) m e = absurd (wrong (sym e))
-means-noted words (Listing true s) m e = absurd (wrong (sym e))
-means-noted words (Listing false s) m e = (s, m)
-means-noted words Migrating m e = absurd (wrong (sym e))
-means-noted words (RecordingTape s) m e = absurd (wrong (sym e))
-means-noted words PlayingFile m e = absurd (wrong (sym e))
-means-noted words (GuardingTape s) m e = absurd (wrong (sym e))
-means-noted words (Selftesting start count) m e = absurd (wrong (sym e))
+pub means-noted : (words : List (List ℕ)) (rules : List Rule) (c : Command) → Means words c →
+    answers_notes (with_rules rules c) ≡ true → (s : Spec) × Means words (Listing false s)
+means-noted words rules (Converting tally first between last) m e = absurd (wrong (sym e))
+means-noted words rules (Listing true s) m e = absurd (wrong (sym e))
+means-noted words rules (Listing false s) m e = (s, m)
+means-noted words rules Migrating m e = absurd (wrong (sym e))
+means-noted words rules (RecordingTape s) m e = absurd (wrong (sym e))
+means-noted words rules PlayingFile m e = absurd (wrong (sym e))
+means-noted words rules (GuardingTape s) m e = absurd (wrong (sym e))
+means-noted words rules (FilteringTape file s) m e = absurd (wrong (sym e))
+means-noted words rules (Selftesting start count) m e = absurd (wrong (sym e))
 
-means-file : (words : List (List ℕ)) (c : Command) → Means words c → reads_file c ≡ true → Means words PlayingFile
-means-file words (Converting tally first between last) m e = absurd (wrong (sym e))
-means-file words (Listing traced s) m e = absurd (wrong (sym e))
-means-file words Migrating m e = absurd (wrong (sym e))
-means-file words (RecordingTape s) m e = absurd (wrong (sym e))
-means-file words PlayingFile m e = m
-means-file words (GuardingTape s) m e = absurd (wrong (sym e))
-means-file words (Selftesting start count) m e = absurd (wrong (sym e))
+means-file : (words : List (List ℕ)) (rules : List Rule) (c : Command) → Means words c →
+    reads_file (with_rules rules c) ≡ true → Means words PlayingFile
+means-file words rules (Converting tally first between last) m e = absurd (wrong (sym e))
+means-file words rules (Listing true s) m e = absurd (wrong (sym e))
+means-file words rules (Listing false s) m e = absurd (wrong (sym e))
+means-file words rules Migrating m e = absurd (wrong (sym e))
+means-file words rules (RecordingTape s) m e = absurd (wrong (sym e))
+means-file words rules PlayingFile m e = m
+means-file words rules (GuardingTape s) m e = absurd (wrong (sym e))
+means-file words rules (FilteringTape file s) m e = absurd (wrong (sym e))
+means-file words rules (Selftesting start count) m e = absurd (wrong (sym e))
+
+means-filter : (words : List (List ℕ)) (rules : List Rule) (c : Command) → Means words c →
+    takes_rules (with_rules rules c) ≡ true → (file : List ℕ) × (s : Spec) × Means words (FilteringTape file s)
+means-filter words rules (Converting tally first between last) m e = absurd (wrong (sym e))
+means-filter words rules (Listing true s) m e = absurd (wrong (sym e))
+means-filter words rules (Listing false s) m e = absurd (wrong (sym e))
+means-filter words rules Migrating m e = absurd (wrong (sym e))
+means-filter words rules (RecordingTape s) m e = absurd (wrong (sym e))
+means-filter words rules PlayingFile m e = absurd (wrong (sym e))
+means-filter words rules (GuardingTape s) m e = absurd (wrong (sym e))
+means-filter words rules (FilteringTape file s) m e = (file, s, m)
+means-filter words rules (Selftesting start count) m e = absurd (wrong (sym e))
 
 pub is_canonical : (first : Spec) (between : List Spec) (last : Spec) (read written : List ℕ) → last ≡ Din →
     written ≡ through first between last read → through Din [] Din written ≡ written
@@ -711,34 +873,57 @@ no_write_fault quiet reads reads_mid writes writes_mid writes_now status answer 
     by_status : (s : Status) → status ≡ s → text_of s ≡ [] → (code_of s ≡ 4 → ⊥) → writes_now ≡ writes
     by_status s same none other = silent (ap text_of same ∙ none) ∙ f.unwritten (λ e. other (ap code_of (sym same ∙ e)))
 
+-- the command of an answer that is no 2, and that it may have it
+means-other : (words : List (List ℕ)) (status t : Status) → MayAnswerWords words status →
+    (code_of status ≡ 2 → ⊥) → status ≡ t → (c : Command) × Means words c × CommandMay c t
+means-other words status t may other same =
+    let m = may.other (λ e. other (ap code_of e)) in
+    (m.0, m.1, subst (CommandMay m.0) same m.2)
+
 pub wants_memory : (words : List (List ℕ)) (status : Status) (answer : ℕ) → answer ≡ code_of status →
     MayAnswerWords words status → answer ≡ 9 →
     (c : Command) × Means words c × (may_want_memory c ≡ true)
 wants_memory words status answer number may nine =
-    let same = no_memory status (sym number ∙ nine) in
-    let m = may.other (other_status status Usage (λ e. omega (arith, number, nine, e))) in
-    (m.0, m.1, subst (MayAnswer m.0) same m.2)
+    let m = means-other words status (Stopped (Faulty fault.Memory)) may (λ e. omega (arith, number, nine, e))
+    (no_memory status (sym number ∙ nine)) in
+    let may_it = m.2 in
+    (m.0, m.1, sym (memory-task may_it.rules m.0) ∙ may_it.may)
 
 pub noted_alone : (words : List (List ℕ)) (status : Status) (answer : ℕ) → answer ≡ code_of status →
     MayAnswerWords words status → answer ≡ 1 → (s : Spec) × Means words (Listing false s)
 noted_alone words status answer number may one =
-    let same = same_status status Noted refl (sym number ∙ one) in
-    let m = may.other (other_status status Usage (λ e. omega (arith, number, one, e))) in
-    means-noted words m.0 m.1 (subst (MayAnswer m.0) same m.2)
+    let m = means-other words status Noted may (λ e. omega (arith, number, one, e))
+    (same_status status Noted refl (sym number ∙ one)) in
+    let may_it = m.2 in
+    means-noted words may_it.rules m.0 m.1 may_it.may
 
 pub tape_alone : (words : List (List ℕ)) (status : Status) (answer : ℕ) → answer ≡ code_of status →
     MayAnswerWords words status → answer ≡ 7 → (c : Command) × Means words c × (reads_tape c ≡ true)
 tape_alone words status answer number may seven =
-    let same = bad_tape status (sym number ∙ seven) in
-    let m = may.other (other_status status Usage (λ e. omega (arith, number, seven, e))) in
-    (m.0, m.1, subst (MayAnswer m.0) same.1 m.2)
+    let bad = bad_tape status (sym number ∙ seven) in
+    let m = means-other words status (Stopped (Faulty (fault.Tape bad.0))) may (λ e. omega (arith, number, seven, e))
+    bad.1 in
+    let may_it = m.2 in
+    (m.0, m.1, sym (tape-task may_it.rules m.0) ∙ may_it.may)
 
 pub file_alone : (words : List (List ℕ)) (status : Status) (answer : ℕ) → answer ≡ code_of status →
     MayAnswerWords words status → answer ≡ 13 → Means words PlayingFile
 file_alone words status answer number may thirteen =
-    let same = bad_file status (sym number ∙ thirteen) in
-    let m = may.other (other_status status Usage (λ e. omega (arith, number, thirteen, e))) in
-    means-file words m.0 m.1 (subst (MayAnswer m.0) same.1 m.2)
+    let bad = bad_file status (sym number ∙ thirteen) in
+    let m = means-other words status (Stopped (Faulty (fault.File bad.0))) may
+    (λ e. omega (arith, number, thirteen, e)) bad.1 in
+    let may_it = m.2 in
+    means-file words may_it.rules m.0 m.1 may_it.may
+
+pub rules_alone : (words : List (List ℕ)) (status : Status) (answer : ℕ) → answer ≡ code_of status →
+    MayAnswerWords words status → answer ≡ 14 →
+    (file : List ℕ) × (s : Spec) × Means words (FilteringTape file s)
+rules_alone words status answer number may fourteen =
+    let bad = bad_rules status (sym number ∙ fourteen) in
+    let m = means-other words status (Stopped (Faulty (fault.Rules bad.0))) may
+    (λ e. omega (arith, number, fourteen, e)) bad.1 in
+    let may_it = m.2 in
+    means-filter words may_it.rules m.0 m.1 may_it.may
 
 -- a self-test
 
@@ -747,10 +932,11 @@ pub selftest-ends : (words : List (List ℕ)) (start count : ℕ) (status : Stat
     (answer ≡ 0) ⊎ (answer ≡ 4)
 selftest-ends words start count status answer number may means = by_status status number may
   where
-    its : (s : Status) → MayAnswerWords words s → (s ≡ Usage → ⊥) → MayAnswer (Selftesting start count) s
+    its : (s : Status) → MayAnswerWords words s → (s ≡ Usage → ⊥) →
+        MayAnswer (with_rules [] (Selftesting start count)) s
     its s may other =
         let m = may.other other in
-        subst (λ (c : Command). MayAnswer c s) (one_command words m.0 (Selftesting start count) m.1 means) m.2
+        (subst (λ (c : Command). CommandMay c s) (one_command words m.0 (Selftesting start count) m.1 means) m.2).may
 
     by_status : (s : Status) → answer ≡ code_of s → MayAnswerWords words s → (answer ≡ 0) ⊎ (answer ≡ 4)
     by_status Done e may = inl e
@@ -768,6 +954,9 @@ selftest-ends words start count status answer number may means = by_status statu
     by_status (Stopped (Faulty fault.Memory)) e may =
         absurd (wrong (sym (its (Stopped (Faulty fault.Memory)) may
         (other_status (Stopped (Faulty fault.Memory)) Usage (λ e. omega (arith, e))))))
+    by_status (Stopped (Faulty (fault.Rules f))) e may =
+        absurd (wrong (sym (its (Stopped (Faulty (fault.Rules f))) may
+        (other_status (Stopped (Faulty (fault.Rules f))) Usage (λ e. omega (arith, e))))))
     by_status (Stopped ReadFault) e may =
         absurd (wrong (sym (its (Stopped ReadFault) may
         (other_status (Stopped ReadFault) Usage (λ e. omega (arith, e))))))

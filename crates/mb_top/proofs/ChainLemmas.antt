@@ -15,6 +15,7 @@ use Rattle.mb_chain.specs.Chain.{links_of, chain_links, ChainStands, ChainEnded,
 use Rattle.mb_chain.specs.Chain.{ChainEndHalted, crossing_all}
 use Rattle.mb_chain.specs.declared.chain.Chain.{Chain}
 use Rattle.mb_chain.proofs.RowLemmas.{live-chain, through-chain, row-closes}
+use Rattle.mb_filter.specs.declared.rule.Rule.{Rule}
 use Rattle.mb_words.specs.Meaning.{front_of, end_of, converting}
 use Rattle.mb_words.proofs.CommandLemmas.{specs_again}
 use Rattle.mb_top.specs.Output.{output_of, live_output_of, is_whole, arriving, HasNoNotes, fault_of}
@@ -78,7 +79,7 @@ chain-of specs chain now same c = record { links = same ∙ c.links; some = c.so
 abbrev Stands : List Spec → Chain → List ℕ → Type 0
 Stands specs chain bytes = ChainOf specs chain × ChainStands chain bytes
 
-no_fault : (tally : Bool) (specs : List Spec) (bytes : List ℕ) → fault_of (converting tally specs) bytes ≡ None
+no_fault : (tally : Bool) (specs : List Spec) (bytes : List ℕ) → fault_of (converting {R = List Rule} tally specs) bytes ≡ None
 no_fault tally [] bytes = refl
 no_fault tally (first ∷ []) bytes = refl
 no_fault tally (first ∷ s ∷ specs) bytes = refl
@@ -133,13 +134,13 @@ chain-ended tally specs chain now took c same f = λ bytes h.
       notes = no_remark tally specs bytes c.some;
     }
   where
-    can_be : (tally : Bool) (specs : List Spec) (bytes : List ℕ) → CanWrite (converting tally specs) bytes
+    can_be : (tally : Bool) (specs : List Spec) (bytes : List ℕ) → CanWrite (converting {R = List Rule} tally specs) bytes
     can_be tally [] bytes = tt
     can_be tally (first ∷ []) bytes = tt
     can_be tally (first ∷ s ∷ specs) bytes = tt
 
     no_remark : (tally : Bool) (specs : List Spec) (bytes : List ℕ) → 2 ≤ length specs →
-        HasNoNotes (converting tally specs) bytes
+        HasNoNotes (converting {R = List Rule} tally specs) bytes
     no_remark tally [] bytes some = absurd (omega (arith, some))
     no_remark tally (first ∷ []) bytes some = absurd (omega (arith, some))
     no_remark tally (first ∷ s ∷ specs) bytes some = tt
@@ -181,7 +182,7 @@ hops-count specs chain c = omega (
 
 pub chain-cut : (tally : Bool) (specs : List Spec) (chain : Chain) (cut : Bool) (bytes : List ℕ) → ChainOf specs chain →
     ((first : Link) (behind : List Link) → chain_links chain ≡ first ∷ behind → cut ≡ not (whole first.reads bytes)) →
-    cut ≡ not (is_whole (converting tally specs) bytes)
+    cut ≡ not (is_whole (converting {R = List Rule} tally specs) bytes)
 chain-cut tally [] chain cut bytes c tells = absurd (omega (arith, c.some))
 chain-cut tally (first ∷ []) chain cut bytes c tells = absurd (omega (arith, c.some))
 chain-cut tally (first ∷ s ∷ specs) chain cut bytes c tells = tells (record { reads = first; writes = s })

@@ -14,7 +14,7 @@ use Rattle.mb_tapes.proofs.PlayedLaw as law
 use Rattle.mb_tapes.proofs.PlayingLemmas.{over-fault}
 use Rattle.mb_words.specs.Command.{PlayingFile}
 use Rattle.mb_top.specs.Output.{in_file, is_whole}
-use Rattle.mb_top.specs.Job.{job_command, JobStands, JobStops, JobDone, JobFed, JobHalted, JobEnded, JobEndHalted, JobStopped}
+use Rattle.mb_top.specs.Job.{job_task, JobStands, JobStops, JobDone, JobFed, JobHalted, JobEnded, JobEndHalted, JobStopped}
 use Rattle.mb_top.specs.Job.{JobTold}
 use Rattle.mb_top.specs.declared.fault.Fault.{Fault}
 use Rattle.mb_top.proofs.KeptLemmas.{kept-file}
@@ -58,9 +58,9 @@ job-play_rests j p piece e w = law.rests p w.0 (player-at j p w.0 e w.1)
 pub job-play_fed : (j : Job) (p now : Playing) (piece : List ℕ) (told : Option SmfFault) (fault : Option Fault)
     (took : List ℕ → Type 0) → j ≡ job.Play p → 0 < length piece → fault ≡ in_file told →
     now ≡ playing_behind p piece → told ≡ playing_fault now → took (playing_given p piece) →
-    JobFed (job_command j) (JobStands j) (JobStands (job.Play now)) (JobStops (job.Play now)) piece fault took
+    JobFed (job_task j) (JobStands j) (JobStands (job.Play now)) (JobStops (job.Play now)) piece fault took
 job-play_fed j p now piece told fault took e some is state told_is given =
-    subst (λ (k : Job). JobFed (job_command k) (JobStands k) (JobStands (job.Play now)) (JobStops (job.Play now)) piece fault
+    subst (λ (k : Job). JobFed (job_task k) (JobStands k) (JobStands (job.Play now)) (JobStops (job.Play now)) piece fault
     took) (sym e)
     (record {
       given = playing_given p piece;
@@ -77,9 +77,9 @@ job-play_fed j p now piece told fault took e some is state told_is given =
 
 pub job-play_halted : (j : Job) (p : Playing) (piece : List ℕ) (took : List ℕ → Type 0) → j ≡ job.Play p →
     0 < length piece → ((front : List ℕ) × IsPart front (playing_given p piece) × took front) →
-    JobHalted (job_command j) (JobStands j) piece took
+    JobHalted (job_task j) (JobStands j) piece took
 job-play_halted j p piece took e some front =
-    subst (λ (k : Job). JobHalted (job_command k) (JobStands k) piece took) (sym e)
+    subst (λ (k : Job). JobHalted (job_task k) (JobStands k) piece took) (sym e)
     (record {
       given = front.0;
       took_it = front.2;
@@ -89,9 +89,9 @@ job-play_halted j p piece took e some front =
     })
 
 pub job-play_ended : (j : Job) (p now : Playing) (took : List ℕ → Type 0) → j ≡ job.Play p → took (playing_end p) →
-    JobEnded (job_command j) (JobStands j) (JobDone (job.Play now)) false took
+    JobEnded (job_task j) (JobStands j) (JobDone (job.Play now)) false took
 job-play_ended j p now took e given =
-    subst (λ (k : Job). JobEnded (job_command k) (JobStands k) (JobDone (job.Play now)) false took) (sym e)
+    subst (λ (k : Job). JobEnded (job_task k) (JobStands k) (JobDone (job.Play now)) false took) (sym e)
     (λ bytes h. record {
       given = playing_end p;
       took_it = given;
@@ -102,15 +102,15 @@ job-play_ended j p now took e given =
     })
 
 pub job-play_stopped : (j : Job) (p : Playing) (took : List ℕ → Type 0) → j ≡ job.Play p → took (playing_end p) →
-    JobStopped (job_command j) (JobStops j) took
+    JobStopped (job_task j) (JobStops j) took
 job-play_stopped j p took e given =
-    subst (λ (k : Job). JobStopped (job_command k) (JobStops k) took) (sym e)
+    subst (λ (k : Job). JobStopped (job_task k) (JobStops k) took) (sym e)
     (record { given = playing_end p; took_it = given; beyond = λ bytes h. law.whole p bytes h })
 
 pub job-play_end_halted : (j : Job) (p : Playing) (took : List ℕ → Type 0) → j ≡ job.Play p →
-    ((front : List ℕ) × IsPart front (playing_end p) × took front) → JobEndHalted (job_command j) (JobStands j) took
+    ((front : List ℕ) × IsPart front (playing_end p) × took front) → JobEndHalted (job_task j) (JobStands j) took
 job-play_end_halted j p took e front =
-    subst (λ (k : Job). JobEndHalted (job_command k) (JobStands k) took) (sym e)
+    subst (λ (k : Job). JobEndHalted (job_task k) (JobStands k) took) (sym e)
     (λ bytes h. record {
       given = front.0;
       took_it = front.2;
@@ -120,9 +120,9 @@ job-play_end_halted j p took e front =
     })
 
 pub job-play_stop_halted : (j : Job) (p : Playing) (took : List ℕ → Type 0) → j ≡ job.Play p →
-    ((front : List ℕ) × IsPart front (playing_end p) × took front) → JobEndHalted (job_command j) (JobStops j) took
+    ((front : List ℕ) × IsPart front (playing_end p) × took front) → JobEndHalted (job_task j) (JobStops j) took
 job-play_stop_halted j p took e front =
-    subst (λ (k : Job). JobEndHalted (job_command k) (JobStops k) took) (sym e)
+    subst (λ (k : Job). JobEndHalted (job_task k) (JobStops k) took) (sym e)
     (λ bytes h. record {
       given = front.0;
       took_it = front.2;
@@ -132,15 +132,15 @@ job-play_stop_halted j p took e front =
     })
 
 pub job-play_cut : (j : Job) (p : Playing) (ended : Bool) (bytes : List ℕ) → j ≡ job.Play p → JobStands j bytes →
-    ended ≡ is_ended p.file.file.place → not ended ≡ not (is_whole (job_command j) bytes)
+    ended ≡ is_ended p.file.file.place → not ended ≡ not (is_whole (job_task j) bytes)
 job-play_cut j p ended bytes e h told =
     ap not (told ∙ law.ended p bytes (player-at j p bytes e h))
-    ∙ ap (λ (k : Job). not (is_whole (job_command k) bytes)) (sym e)
+    ∙ ap (λ (k : Job). not (is_whole (job_task k) bytes)) (sym e)
 
 pub job-play_told : (j : Job) (p : Playing) (took : List ℕ → Type 0) → j ≡ job.Play p → took [] →
-    JobTold (job_command j) (JobDone j) took
+    JobTold (job_task j) (JobDone j) took
 job-play_told j p took e none =
-    subst (λ (k : Job). JobTold (job_command k) (JobDone k) took) (sym e)
+    subst (λ (k : Job). JobTold (job_task k) (JobDone k) took) (sym e)
     (record { given = []; took_it = none; tally = λ bytes h. refl })
 
 -- a fault of a file stays its fault, so where all of it has none, no front has one

@@ -16,9 +16,10 @@ use Rattle.mb_tapes.specs.declared.recording.RecordingStop.{RecordingStop}
 use Rattle.mb_tapes.specs.declared.recording.RecordingStop.TheVariants as stop
 use Rattle.mb_outside.specs.declared.out.Refused.{Refused}
 use Rattle.mb_tapes.specs.declared.recording.Recording.{Recording}
+use Rattle.mb_filter.specs.declared.rule.Rule.{Rule}
 use Rattle.mb_words.specs.Command.{RecordingTape}
 use Rattle.mb_top.specs.Output.{Shows, in_tape, is_whole, output_of}
-use Rattle.mb_top.specs.Job.{job_command, JobStands, JobStops, JobDone, JobFed, JobHalted, JobEnded, JobEndedAs}
+use Rattle.mb_top.specs.Job.{job_task, JobStands, JobStops, JobDone, JobFed, JobHalted, JobEnded, JobEndedAs}
 use Rattle.mb_top.specs.Job.{JobEndHalted, JobStopped, JobTold, KeptBy, PieceRecorded, RecordEnded, RecordStands}
 use Rattle.mb_top.specs.Job.{full_fault}
 use Rattle.mb_top.specs.declared.ending.Ending.{Ending}
@@ -42,7 +43,7 @@ left_out-later marks more why l =
     }
 
 shows-full : (s : Spec) (tape : List ℕ) (why : SmfFull) → FirstLeftOut (track_marks s 0 tape) why →
-    Shows (RecordingTape s) tape (full_fault why)
+    Shows {R = List Rule} (RecordingTape s) tape (full_fault why)
 shows-full s tape (full.Gap was now) l = l
 shows-full s tape full.Track l = l
 shows-full s tape (full.Memory memory) l = tt
@@ -72,7 +73,7 @@ pub piece-full : (s : Spec) (old : Option Recording) (r : Recording) (stands_now
 piece-full s old r stands_now bytes piece why f e h is left_out =
     let stands = record-by s r bytes old e h in
     let tape = bytes ++ piece in
-    subst (Shows (RecordingTape s) tape) (sym is)
+    subst (Shows {R = List Rule} (RecordingTape s) tape) (sym is)
     (shows-full s tape why
     (left_out-later (track_marks_so_far s 0 tape) (track_end s 0 tape) why
     (subst (λ (x : Spec). FirstLeftOut (track_marks_so_far x 0 tape) why) (stands.0) (left_out bytes stands.1))))
@@ -92,7 +93,7 @@ pub recorded-kept : (s : Spec) (r : Recording) (bytes : List ℕ) (took : List �
     FirstLeftOut (track_marks (recording_spec r) 0 bytes) why → RecordEnded s bytes (ending.Kept f) took
 recorded-kept s r bytes took why f h is none left_out = (
   none,
-  subst (Shows (RecordingTape s) bytes) (sym is)
+  subst (Shows {R = List Rule} (RecordingTape s) bytes) (sym is)
       (shows-full s bytes why (subst (λ (x : Spec). FirstLeftOut (track_marks x 0 bytes) why) h.0 left_out)),
 )
 
@@ -110,9 +111,9 @@ job-record_given j s r piece e w = (s, w.0, record-at j s r w.0 e w.1, w.2)
 pub job-record_fed : (j : Job) (s : Spec) (r now : Option Recording) (piece : List ℕ) (f : Option Fault)
     (took : List ℕ → Type 0) → j ≡ job.Record s r → took [] →
     ((t : Spec) (bytes : List ℕ) → RecordStands t r bytes → PieceRecorded t (RecordStands t now) (bytes ++ piece) f) →
-    JobFed (job_command j) (JobStands j) (JobStands (job.Record s now)) (JobStops (job.Record s now)) piece f took
+    JobFed (job_task j) (JobStands j) (JobStands (job.Record s now)) (JobStops (job.Record s now)) piece f took
 job-record_fed j s r now piece f took e none recorded =
-    subst (λ (k : Job). JobFed (job_command k) (JobStands k) (JobStands (job.Record s now)) (JobStops
+    subst (λ (k : Job). JobFed (job_task k) (JobStands k) (JobStands (job.Record s now)) (JobStops
     (job.Record s now)) piece f took) (sym e)
     (record {
       given = [];
@@ -150,10 +151,10 @@ pub job-record_ended : {E : Type 0} (res : Result Ending E) (j : Job) (s : Spec)
     (took : List ℕ → Type 0) → j ≡ job.Record s r → taken ≡ r →
     ((t : Spec) (bytes : List ℕ) → RecordStands t taken bytes → IfOk res (λ told. RecordEnded t bytes told took)) →
     ((bytes : List ℕ) × JobStands j bytes × (length bytes ≤ 2 ^ 40)) →
-    IfOk res (λ told. JobEndedAs (job_command j) (JobStands j) (JobDone (job.Record s now)) told took)
+    IfOk res (λ told. JobEndedAs (job_task j) (JobStands j) (JobDone (job.Record s now)) told took)
 job-record_ended (Err x) j s r taken now took e same ended w = tt
 job-record_ended (Ok told) j s r taken now took e same ended w =
-    subst (λ (k : Job). JobEndedAs (job_command k) (JobStands k) (JobDone (job.Record s now)) told took) (sym e)
+    subst (λ (k : Job). JobEndedAs (job_task k) (JobStands k) (JobDone (job.Record s now)) told took) (sym e)
     (by told (λ bytes h. ended s bytes (subst (λ (x : Option Recording). RecordStands s x bytes) (sym same) h)))
   where
     by : (x : Ending) → ((bytes : List ℕ) → RecordStands s r bytes → RecordEnded s bytes x took) →
@@ -183,31 +184,31 @@ pub job-record_end_halted : {T E : Type 0} (res : Result T E) (j : Job) (s : Spe
     (took : List ℕ → Type 0) → j ≡ job.Record s r → taken ≡ r →
     ((t : Spec) (bytes : List ℕ) → RecordStands t taken bytes →
     OnErr res ((front : List ℕ) × IsPart front (recorded_file t bytes) × took front)) →
-    OnErr res (JobEndHalted (job_command j) (JobStands j) took)
+    OnErr res (JobEndHalted (job_task j) (JobStands j) took)
 job-record_end_halted (Ok x) j s r taken took e same halted = tt
 job-record_end_halted (Err x) j s r taken took e same halted =
-    subst (λ (k : Job). JobEndHalted (job_command k) (JobStands k) took) (sym e)
+    subst (λ (k : Job). JobEndHalted (job_task k) (JobStands k) took) (sym e)
     (λ bytes h.
     let f = halted s bytes (subst (λ (y : Option Recording). RecordStands s y bytes) (sym same) h) in
     record { given = f.0; took_it = f.2; part = f.1 })
 
 pub job-record_stopped : (j : Job) (s : Spec) (r : Option Recording) (took : List ℕ → Type 0) → j ≡ job.Record s r →
-    took [] → JobStopped (job_command j) (JobStops j) took
+    took [] → JobStopped (job_task j) (JobStops j) took
 job-record_stopped j s r took e none =
-    subst (λ (k : Job). JobStopped (job_command k) (JobStops k) took) (sym e)
+    subst (λ (k : Job). JobStopped (job_task k) (JobStops k) took) (sym e)
     (record { given = []; took_it = none; beyond = λ bytes h. refl })
 
 pub job-record_cut : (j : Job) (s : Spec) (r : Option Recording) (cut : Bool) (bytes : List ℕ) → j ≡ job.Record s r →
     JobStands j bytes →
     ((t : Spec) (all : List ℕ) → RecordStands t r all → cut ≡ not (track_whole t 0 all)) →
-    cut ≡ not (is_whole (job_command j) bytes)
+    cut ≡ not (is_whole (job_task j) bytes)
 job-record_cut j s r cut bytes e h law =
-    law s bytes (record-at j s r bytes e h) ∙ ap (λ (k : Job). not (is_whole (job_command k) bytes)) (sym e)
+    law s bytes (record-at j s r bytes e h) ∙ ap (λ (k : Job). not (is_whole (job_task k) bytes)) (sym e)
 
 pub job-record_told : (j : Job) (s : Spec) (r : Option Recording) (took : List ℕ → Type 0) → j ≡ job.Record s r →
-    took [] → JobTold (job_command j) (JobDone j) took
+    took [] → JobTold (job_task j) (JobDone j) took
 job-record_told j s r took e none =
-    subst (λ (k : Job). JobTold (job_command k) (JobDone k) took) (sym e)
+    subst (λ (k : Job). JobTold (job_task k) (JobDone k) took) (sym e)
     (record { given = []; took_it = none; tally = λ bytes h. refl })
 
 pub partial-recorded : (s : Spec) (old : Option Recording) (r : Recording) (bytes : List ℕ) (cut : Bool) →

@@ -23,6 +23,7 @@ use Rattle.mb_words.specs.Command.{Command, RecordingTape, Means}
 use Rattle.mb_top.specs.Output.{Shows, fault_of, in_tape}
 use Rattle.mb_top.specs.Answer.{Answered, EndsAs, taken_off, added_to, code_of, read_all}
 use Rattle.mb_top.specs.Ran.{MayAnswerWords, RanWords}
+use Rattle.mb_top.proofs.TaskLemmas.{did-plain}
 use Rattle.mb_top.specs.declared.fault.Fault.{Fault}
 use Rattle.mb_top.specs.declared.fault.Fault.TheVariants as fault
 use Rattle.mb_top.specs.declared.status.Status.{Status}
@@ -163,6 +164,7 @@ by_status s limit left read written tally (Stopped (Faulty fault.Memory)) ends =
       long_track = λ e. absurd (omega (arith, e));
       long_gap = λ e. absurd (omega (arith, e));
     }
+by_status s limit left read written tally (Stopped (Faulty (fault.Rules f))) ends = absurd (ends.2)
 
 pub recorded-by : (words : List (List ℕ)) (limit : ℕ) (before after : Contents) (faults faults_now answer : ℕ)
     (s : Spec) → Means words (RecordingTape s) → Answered words limit before after faults faults_now answer →
@@ -170,7 +172,7 @@ pub recorded-by : (words : List (List ℕ)) (limit : ℕ) (before after : Conten
 recorded-by words limit before after faults faults_now answer s m a =
     subst (RecordedBy s (before.left 0) (taken_off 0 before after) (added_to 1 before after)) (sym a.number)
     (by_status s limit (before.left 0) (taken_off 0 before after) (added_to 1 before after) a.tally a.status
-    (a.did (RecordingTape s) m).ends)
+    (did-plain (RecordingTape s) limit before after a.tally a.status refl (a.did (RecordingTape s) m)).ends)
 
 -- the file means what the marks mean
 pub file-means : (s : Spec) (left read written : List ℕ) (answer : ℕ) → RecordedAll s left read written answer →
@@ -194,34 +196,36 @@ pub records-completes : (words : List (List ℕ)) (limit : ℕ) (before after : 
     (status ≡ Stopped ReadFault → reads) → (status ≡ Stopped Refused → writes) → (reads → ⊥) → (writes → ⊥) →
     length (before.left 0) < limit → track_whole s 0 (before.left 0) ≡ true →
     ((input : List ℕ) (g : Fault) → IsFront input (before.left 0) → in_tape (tape_fault input) ≡ Some g → ⊥) →
-    RanWords words limit before after status → Recorded (code_of status)
-records-completes words limit before after reads writes Done s m may r f nr nw short is sound ran = inl refl
-records-completes words limit before after reads writes Noted s m may r f nr nw short is sound ran =
-    absurd ((ran.ends (RecordingTape s) m).2)
-records-completes words limit before after reads writes Usage s m may r f nr nw short is sound ran =
+    (ran : RanWords words limit before after status) →
+    EndsAs (RecordingTape s) limit (before.left 0) ran.input ran.output ran.tally status → Recorded (code_of status)
+records-completes words limit before after reads writes Done s m may r f nr nw short is sound ran ends = inl refl
+records-completes words limit before after reads writes Noted s m may r f nr nw short is sound ran ends =
+    absurd (ends.2)
+records-completes words limit before after reads writes Usage s m may r f nr nw short is sound ran ends =
     absurd (may.usage refl (RecordingTape s) m)
-records-completes words limit before after reads writes Cut s m may r f nr nw short is sound ran =
-    let ends = ran.ends (RecordingTape s) m in
+records-completes words limit before after reads writes Cut s m may r f nr nw short is sound ran ends =
     absurd (wrong (sym is ∙ (ap (track_whole s 0) ((ends.0).all refl) ∙ ends.1)))
-records-completes words limit before after reads writes (Stopped ReadFault) s m may r f nr nw short is sound ran =
+records-completes words limit before after reads writes (Stopped ReadFault) s m may r f nr nw short is sound ran ends =
     absurd (nr (r refl))
-records-completes words limit before after reads writes (Stopped Refused) s m may r f nr nw short is sound ran =
+records-completes words limit before after reads writes (Stopped Refused) s m may r f nr nw short is sound ran ends =
     absurd (nw (f refl))
-records-completes words limit before after reads writes (Stopped TooLong) s m may r f nr nw short is sound ran =
+records-completes words limit before after reads writes (Stopped TooLong) s m may r f nr nw short is sound ran ends =
     absurd (omega (
       arith,
       short,
-      (ran.ends (RecordingTape s) m).0,
+      ends.0,
       ap length (ran.front).1,
       length-append ran.input (ran.front).0,
     ))
 records-completes words limit before after reads writes (Stopped (Faulty (fault.Tape g))) s m may r f nr nw short is
-    sound ran = absurd (sound ran.input (fault.Tape g) ran.front (ran.ends (RecordingTape s) m).2)
+    sound ran ends = absurd (sound ran.input (fault.Tape g) ran.front ends.2)
 records-completes words limit before after reads writes (Stopped (Faulty (fault.File g))) s m may r f nr nw short is
-    sound ran = absurd (sound ran.input (fault.File g) ran.front (ran.ends (RecordingTape s) m).2)
+    sound ran ends = absurd (sound ran.input (fault.File g) ran.front ends.2)
 records-completes words limit before after reads writes (Stopped (Faulty fault.LongTrack)) s m may r f nr nw short is
-    sound ran = inr (inr (inl refl))
+    sound ran ends = inr (inr (inl refl))
 records-completes words limit before after reads writes (Stopped (Faulty (fault.LongGap was now))) s m may r f nr nw
-    short is sound ran = inr (inr (inr refl))
+    short is sound ran ends = inr (inr (inr refl))
 records-completes words limit before after reads writes (Stopped (Faulty fault.Memory)) s m may r f nr nw short is
-    sound ran = inr (inl refl)
+    sound ran ends = inr (inl refl)
+records-completes words limit before after reads writes (Stopped (Faulty (fault.Rules g))) s m may r f nr nw short is
+    sound ran ends = absurd (ends.2)

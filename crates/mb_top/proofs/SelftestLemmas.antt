@@ -24,14 +24,19 @@ pub told-whole : (start count limit : ℕ) (text : List ℕ) (before after : Con
     after ≡ after_write 1 text before → CommandRan (Selftesting start count) limit before after Done
 told-whole start count limit text before after is wrote =
     record {
-      ran = record {
-        input = [];
-        output = text;
-        tally = [];
-        contents = written-alone text before after wrote;
-        front = (before.left 0, refl);
-        within = omega arith;
-        ends = (
+      start = before;
+      opened = inl refl;
+      input = [];
+      output = text;
+      tally = [];
+      contents = written-alone text before after wrote;
+      front = (before.left 0, refl);
+      unread = λ e. refl;
+      within = omega arith;
+      ends = inl (record {
+        rules = [];
+        got_them = tt;
+        holds = (
           record {
             all = λ reads. absurd (not-read reads);
             below = λ reads. absurd (not-read reads);
@@ -43,8 +48,7 @@ told-whole start count limit text before after is wrote =
           refl,
           tt,
         );
-      };
-      unread = λ e. refl;
+      });
     }
 
 pub told-front : (start count limit : ℕ) (text front : List ℕ) (before after : Contents) →
@@ -52,20 +56,24 @@ pub told-front : (start count limit : ℕ) (text front : List ℕ) (before after
     CommandRan (Selftesting start count) limit before after (Stopped Refused)
 told-front start count limit text front before after is part wrote =
     record {
-      ran = record {
-        input = [];
-        output = front;
-        tally = [];
-        contents = written-alone front before after wrote;
-        front = (before.left 0, refl);
-        within = omega arith;
-        ends = record {
+      start = before;
+      opened = inl refl;
+      input = [];
+      output = front;
+      tally = [];
+      contents = written-alone front before after wrote;
+      front = (before.left 0, refl);
+      unread = λ e. refl;
+      within = omega arith;
+      ends = inl (record {
+        rules = [];
+        got_them = tt;
+        holds = record {
           front = ((part-front front text part).0, sym is ∙ (part-front front text part).1);
           at_least = (front, refl);
           tally_front = ([], refl);
           behind = inl refl;
           unfinished = λ all told. part-differs front text part (all ∙ sym is);
         };
-      };
-      unread = λ e. refl;
+      });
     }

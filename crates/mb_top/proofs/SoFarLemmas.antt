@@ -16,7 +16,9 @@ use Rattle.mb_carrier.proofs.GrowLemmas.{live-grows, live-ends}
 use Rattle.mb_carrier.proofs.GrowSpecs.{grows}
 use Rattle.mb_carrier.proofs.LiveLemmas as live
 use Rattle.mb_words.specs.Command.{Command, Means}
-use Rattle.mb_top.specs.Output.{stopped_output_of}
+use Rattle.mb_top.specs.Output.{stopped_output_of, takes_rules}
+use Rattle.mb_top.specs.Task.{with_rules}
+use Rattle.mb_top.proofs.TaskLemmas.{did-plain}
 use Rattle.mb_top.specs.Answer.{Answered, EndsAs, taken_off, added_to, code_of, read_part}
 use Rattle.mb_top.specs.declared.status.Status.{Status}
 use Rattle.mb_top.specs.declared.status.Status.TheVariants.{Done, Noted, Usage, Cut, Stopped}
@@ -35,6 +37,7 @@ before_the_end claim fault long bad (Stopped (Faulty (its.File f))) e = bad (its
 before_the_end claim fault long bad (Stopped (Faulty its.LongTrack)) e = absurd (wrong e)
 before_the_end claim fault long bad (Stopped (Faulty (its.LongGap was now))) e = absurd (wrong e)
 before_the_end claim fault long bad (Stopped (Faulty its.Memory)) e = absurd (wrong e)
+before_the_end claim fault long bad (Stopped (Faulty (its.Rules f))) e = absurd (wrong e)
 before_the_end claim fault long bad (Stopped Refused) e = absurd (wrong e)
 before_the_end claim fault long bad Done e = absurd (wrong e)
 before_the_end claim fault long bad Noted e = absurd (wrong e)
@@ -43,13 +46,16 @@ before_the_end claim fault long bad Cut e = absurd (wrong e)
 
 pub live_written : (words : List (List ℕ)) (limit : ℕ) (before after : Contents) (faults faults_now answer : ℕ)
     (c : Command) →
-    read_part answer ≡ true → Means words c → (a : Answered words limit before after faults faults_now answer) →
-    added_to 1 before after ≡ stopped_output_of c (taken_off 0 before after)
-live_written words limit before after faults faults_now answer c part m a =
+    takes_rules c ≡ false → read_part answer ≡ true → Means words c →
+    (a : Answered words limit before after faults faults_now answer) →
+    added_to 1 before after ≡ stopped_output_of (with_rules [] c) (taken_off 0 before after)
+live_written words limit before after faults faults_now answer c plain part m a =
+    let t = with_rules [] c in
     before_the_end
-    (λ s. EndsAs c limit (before.left 0) (taken_off 0 before after) (added_to 1 before after) a.tally s →
-    added_to 1 before after ≡ stopped_output_of c (taken_off 0 before after))
-    (λ ends. ends.0) (λ ends. ends.1) (λ f ends. ends.0) a.status (sym (ap read_part a.number) ∙ part) (a.did c m).ends
+    (λ s. EndsAs t limit (before.left 0) (taken_off 0 before after) (added_to 1 before after) a.tally s →
+    added_to 1 before after ≡ stopped_output_of t (taken_off 0 before after))
+    (λ ends. ends.0) (λ ends. ends.1) (λ f ends. ends.0) a.status (sym (ap read_part a.number) ∙ part)
+    (did-plain c limit before after a.tally a.status plain (a.did c m)).ends
 
 pub so_far-lacks : (first : Spec) (between : List Spec) (last : Spec) (read written : List ℕ) →
     AreSpecs between → IsSpec last →

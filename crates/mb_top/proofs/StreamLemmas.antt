@@ -19,9 +19,9 @@ use Rattle.mb_top.specs.declared.fault.Fault.{Fault}
 use Rattle.mb_top.specs.declared.fault.Fault.TheVariants as fault
 use Rattle.mb_top.specs.declared.status.Stop.{Stop}
 use Rattle.mb_top.proofs.ChainLemmas.{chain-none}
-use Rattle.mb_top.proofs.JobLemmas.{command-stays, command-closes}
+use Rattle.mb_top.proofs.JobLemmas.{task-stays, task-closes}
 use Rattle.mb_words.specs.Command.{Command, Converting, Listing, Migrating, RecordingTape, PlayingFile, GuardingTape}
-use Rattle.mb_words.specs.Command.{Selftesting}
+use Rattle.mb_words.specs.Command.{FilteringTape, Selftesting}
 use Rattle.mb_top.specs.Output.{fault_of, in_file, in_tape, output_of, is_whole, live_output_of, stopped_output_of}
 use Rattle.mb_top.specs.Output.{tally_of, may_want_memory, reads_tape, reads_file, records, LeavesOut, Shows, WantsMemory}
 use Rattle.mb_smf.specs.declared.writer.SmfFull.{SmfFull}
@@ -33,9 +33,13 @@ use Rattle.mb_top.specs.declared.ending.Ending.{Ending}
 use Rattle.mb_top.specs.declared.ending.Ending.TheVariants as ending
 use Rattle.mb_top.specs.declared.job.Job.{Job}
 use Rattle.mb_top.specs.declared.job.Job.TheVariants as job
-use Rattle.mb_top.specs.Output.{writes_at_stop}
+use Rattle.mb_top.specs.Output.{reads_from, takes_rules, writes_at_stop}
+use Rattle.mb_top.specs.Task.{Task, with_rules}
+use Rattle.mb_top.proofs.RulesLemmas.{written-nothing}
+use Rattle.mb_top.proofs.TaskLemmas.{got-plain, memory-task, quiet-task}
 use Rattle.mb_top.specs.Answer.{EndsAs, DidAll, WroteFront, all_but_last, PIECE}
-use Rattle.mb_top.specs.Ran.{Closed, CommandRan, Faulted, HasClosed, HasStopped, Ran, RanEnd, RanStop, MayAnswer, at_end}
+use Rattle.mb_top.specs.Ran.{Closed, CommandMay, CommandRan, Faulted, HasClosed, HasStopped, Ran, RanEnd, RanStop}
+use Rattle.mb_top.specs.Ran.{MayAnswer, at_end}
 use Rattle.mb_top.specs.Ran.{written_of}
 use Rattle.mb_top.specs.declared.status.Status.{Status}
 use Rattle.mb_top.specs.declared.status.Status.TheVariants.{Stopped}
@@ -59,30 +63,32 @@ no_tape None f e = cc
 no_tape (Some g) f e = cc
 
 -- these bytes were read, which have no fault, and what is known of them was written
-pub record SoFar (c : Command) (before now : Contents) (bytes : List ℕ) : Type 0 where
+pub record SoFar (c : Task) (before now : Contents) (bytes : List ℕ) : Type 0 where
   pub front : IsFront bytes (before.left 0)
   pub contents : now ≡ after_write 1 (live_output_of c bytes) (after_read 0 (length bytes) before)
   pub sound : fault_of c bytes ≡ None
 
-live-none : (c : Command) → live_output_of c [] ≡ []
+live-none : (c : Task) → live_output_of c [] ≡ []
 live-none (Converting tally first between last) = chain-none first between last
 live-none (Listing traced s) = ap (lines_known traced s) (grows s).nothing_known
 live-none Migrating = refl
 live-none (RecordingTape s) = refl
 live-none PlayingFile = refl
 live-none (GuardingTape s) = refl
+live-none (FilteringTape rules s) = refl
 live-none (Selftesting start count) = refl
 
-sound-none : (c : Command) → fault_of c [] ≡ None
+sound-none : (c : Task) → fault_of c [] ≡ None
 sound-none (Converting tally first between last) = refl
 sound-none (Listing traced s) = refl
 sound-none Migrating = refl
 sound-none (RecordingTape s) = refl
 sound-none PlayingFile = refl
 sound-none (GuardingTape s) = refl
+sound-none (FilteringTape rules s) = refl
 sound-none (Selftesting start count) = refl
 
-pub so_far-none : (c : Command) (before : Contents) → SoFar c before before []
+pub so_far-none : (c : Task) (before : Contents) → SoFar c before before []
 so_far-none c before =
     record {
       front = (before.left 0, refl);
@@ -97,16 +103,16 @@ so_far-none c before =
 left_behind : (bytes left : List ℕ) → (f : IsFront bytes left) → drop (length bytes) left ≡ f.0
 left_behind bytes left f = ap (drop (length bytes)) f.1 ∙ drop_at bytes f.0 (length bytes) refl
 
-pub left-now : (c : Command) (before now : Contents) (bytes : List ℕ) → (s : SoFar c before now bytes) →
+pub left-now : (c : Task) (before now : Contents) (bytes : List ℕ) → (s : SoFar c before now bytes) →
     now.left 0 ≡ (s.front).0
 left-now c before now bytes s = ap (λ (c : Contents). c.left 0) s.contents ∙ left_behind bytes (before.left 0) s.front
 
 -- a piece was read
-pub record Read (c : Command) (before now : Contents) (bytes piece : List ℕ) : Type 0 where
+pub record Read (c : Task) (before now : Contents) (bytes piece : List ℕ) : Type 0 where
   pub front : IsFront (bytes ++ piece) (before.left 0)
   pub contents : now ≡ after_write 1 (live_output_of c bytes) (after_read 0 (length (bytes ++ piece)) before)
 
-pub read-piece : (c : Command) (before old now : Contents) (bytes buffer piece : List ℕ) (count : ℕ) →
+pub read-piece : (c : Task) (before old now : Contents) (bytes buffer piece : List ℕ) (count : ℕ) →
     SoFar c before old bytes → Gives old now 0 count buffer → piece ≡ take count buffer → Read c before now bytes piece
 read-piece c before old now bytes buffer piece count s g cut =
     let left = left-now c before old bytes s in
@@ -129,7 +135,7 @@ read-piece c before old now bytes buffer piece count s g cut =
     }
 
 -- what the next piece gave was written
-written-more : (c : Command) (before old now : Contents) (bytes piece given : List ℕ) →
+written-more : (c : Task) (before old now : Contents) (bytes piece given : List ℕ) →
     Read c before old bytes piece → now ≡ after_write 1 given old →
     live_output_of c (bytes ++ piece) ≡ live_output_of c bytes ++ given →
     now ≡ after_write 1 (live_output_of c (bytes ++ piece)) (after_read 0 (length (bytes ++ piece)) before)
@@ -140,7 +146,7 @@ written-more c before old now bytes piece given r wrote beyond =
     ∙ ap (λ (out : List ℕ). after_write 1 out (after_read 0 (length (bytes ++ piece)) before)) (sym beyond)))
 
 -- the next piece was written
-pub so_far-more : (c : Command) (before old now : Contents) (bytes piece given : List ℕ) →
+pub so_far-more : (c : Task) (before old now : Contents) (bytes piece given : List ℕ) →
     Read c before old bytes piece → now ≡ after_write 1 given old →
     live_output_of c (bytes ++ piece) ≡ live_output_of c bytes ++ given → fault_of c (bytes ++ piece) ≡ None →
     SoFar c before now (bytes ++ piece)
@@ -158,9 +164,9 @@ quietly input output before now e = e ∙ sym (after_write-none 2 (after_write 1
     (length input) before)))
 
 -- a front of some bytes is written in what is written of them
-live-front : (c : Command) (p bytes : List ℕ) → IsFront p bytes → IsFront (live_output_of c p) (live_output_of c bytes)
+live-front : (c : Task) (p bytes : List ℕ) → IsFront p bytes → IsFront (live_output_of c p) (live_output_of c bytes)
 live-front c p bytes f =
-    let stays = command-stays c p f.0 in
+    let stays = task-stays c p f.0 in
     (stays.0, ap (λ bs. live_output_of c bs) f.1 ∙ stays.1)
 
 -- all but the last read
@@ -177,13 +183,13 @@ all_but_last-own : (bytes : List ℕ) → IsFront (all_but_last PIECE bytes) byt
 all_but_last-own bytes = (drop (length bytes - PIECE) bytes, sym (take-append-drop (length bytes - PIECE) bytes))
 
 -- what is known of all but the last bytes was written
-known-front : (c : Command) (bytes given : List ℕ) →
+known-front : (c : Task) (bytes given : List ℕ) →
     IsFront (live_output_of c (all_but_last PIECE bytes)) (live_output_of c bytes ++ given)
 known-front c bytes given = front-then _ _ _ (live-front c (all_but_last PIECE bytes) bytes (all_but_last-own bytes))
     (given, refl)
 
 -- a part of what all of the input gives was written
-wrote-part : (c : Command) (bytes given : List ℕ) → IsPart (live_output_of c bytes ++ given) (output_of c bytes) →
+wrote-part : (c : Task) (bytes given : List ℕ) → IsPart (live_output_of c bytes ++ given) (output_of c bytes) →
     WroteFront c bytes (live_output_of c bytes ++ given) []
 wrote-part c bytes given part =
     record {
@@ -195,7 +201,7 @@ wrote-part c bytes given part =
     }
 
 -- the input was stopped: what the answer says if what is owed was written is a premise
-pub ran-stop : (c d : Command) (limit : ℕ) (before old now : Contents) (bytes : List ℕ) (stop : Stop) (status : Status) →
+pub ran-stop : (c d : Task) (limit : ℕ) (before old now : Contents) (bytes : List ℕ) (stop : Stop) (status : Status) →
     d ≡ c → length bytes ≤ limit → IsFront bytes (before.left 0) →
     old ≡ after_write 1 (live_output_of c bytes) (after_read 0 (length bytes) before) →
     RanStop d bytes stop old now status →
@@ -204,7 +210,7 @@ pub ran-stop : (c d : Command) (limit : ℕ) (before old now : Contents) (bytes 
     Ran c limit before now status
 ran-stop c d limit before old now bytes stop status same within front wrote told claim =
     let r : RanStop c bytes stop old now status
-    = subst (λ (x : Command). RanStop x bytes stop old now status) same told in
+    = subst (λ (x : Task). RanStop x bytes stop old now status) same told in
     record {
       input = bytes;
       output = live_output_of c bytes ++ r.output;
@@ -225,14 +231,14 @@ ran-stop c d limit before old now bytes stop status same within front wrote told
     }
 
 -- between two pieces reading failed, or the limit was reached
-pub ran-read_fault : (c d : Command) (limit : ℕ) (before old now : Contents) (bytes : List ℕ) (status : Status) →
+pub ran-read_fault : (c d : Task) (limit : ℕ) (before old now : Contents) (bytes : List ℕ) (status : Status) →
     d ≡ c → length bytes ≤ limit → SoFar c before old bytes → RanStop d bytes ReadFault old now status →
     Ran c limit before now status
 ran-read_fault c d limit before old now bytes status same within s told =
     ran-stop c d limit before old now bytes ReadFault status same within s.front s.contents told
     (λ output is. (is, refl, s.sound))
 
-pub ran-too_long : (c d : Command) (limit : ℕ) (before old now : Contents) (bytes : List ℕ) (status : Status) →
+pub ran-too_long : (c d : Task) (limit : ℕ) (before old now : Contents) (bytes : List ℕ) (status : Status) →
     d ≡ c → length bytes ≡ limit → SoFar c before old bytes → RanStop d bytes TooLong old now status →
     Ran c limit before now status
 ran-too_long c d limit before old now bytes status same all s told =
@@ -240,7 +246,7 @@ ran-too_long c d limit before old now bytes status same all s told =
     (λ output is. (all, is, refl, s.sound))
 
 -- a piece has a fault, up to which it was written
-pub ran-faulty : (c d : Command) (limit count : ℕ) (before old mid now : Contents) (bytes piece given : List ℕ)
+pub ran-faulty : (c d : Task) (limit count : ℕ) (before old mid now : Contents) (bytes piece given : List ℕ)
     (f : Fault) (status : Status) → d ≡ c →
     length piece ≡ count → length bytes + count ≤ limit → Read c before old bytes piece →
     mid ≡ after_write 1 given old → live_output_of c (bytes ++ piece) ≡ live_output_of c bytes ++ given →
@@ -251,7 +257,7 @@ ran-faulty c d limit count before old mid now bytes piece given f status same si
     (omega (arith, length-append bytes piece, size)) r.front
     (written-more c before old mid bytes piece given r wrote beyond) told (λ output is. (is, refl, fault_is))
 
-may-tape : (c : Command) (input : List ℕ) (f : TapeFault) → fault_of c input ≡ Some (fault.Tape f) →
+may-tape : (c : Task) (input : List ℕ) (f : TapeFault) → fault_of c input ≡ Some (fault.Tape f) →
     reads_tape c ≡ true
 may-tape (Converting tally first between last) input f e = cc
 may-tape (Listing traced s) input f e = cc
@@ -259,9 +265,10 @@ may-tape Migrating input f e = refl
 may-tape (RecordingTape s) input f e = refl
 may-tape PlayingFile input f e = absurd (no_tape (smf input).fault f e)
 may-tape (GuardingTape s) input f e = refl
+may-tape (FilteringTape rules s) input f e = refl
 may-tape (Selftesting start count) input f e = cc
 
-may-file : (c : Command) (input : List ℕ) (f : SmfFault) → fault_of c input ≡ Some (fault.File f) →
+may-file : (c : Task) (input : List ℕ) (f : SmfFault) → fault_of c input ≡ Some (fault.File f) →
     reads_file c ≡ true
 may-file (Converting tally first between last) input f e = cc
 may-file (Listing traced s) input f e = cc
@@ -269,48 +276,52 @@ may-file Migrating input f e = absurd (no_file (tape_fault input) f e)
 may-file (RecordingTape s) input f e = absurd (no_file (tape_fault input) f e)
 may-file PlayingFile input f e = refl
 may-file (GuardingTape s) input f e = absurd (no_file (tape_fault input) f e)
+may-file (FilteringTape rules s) input f e = absurd (no_file (tape_fault input) f e)
 may-file (Selftesting start count) input f e = cc
 
-may-leave_out : (c : Command) (input : List ℕ) (why : SmfFull) → LeavesOut c input why → records c ≡ true
+may-leave_out : (c : Task) (input : List ℕ) (why : SmfFull) → LeavesOut c input why → records c ≡ true
 may-leave_out (Converting tally first between last) input why e = absurd e
 may-leave_out (Listing traced s) input why e = absurd e
 may-leave_out Migrating input why e = absurd e
 may-leave_out (RecordingTape s) input why e = refl
 may-leave_out PlayingFile input why e = absurd e
 may-leave_out (GuardingTape s) input why e = absurd e
+may-leave_out (FilteringTape rules s) input why e = absurd e
 may-leave_out (Selftesting start count) input why e = absurd e
 
-may-want : (c : Command) (input : List ℕ) → WantsMemory c input → may_want_memory c ≡ true
+may-want : (c : Task) (input : List ℕ) → WantsMemory c input → may_want_memory c ≡ true
 may-want (Converting tally first between last) input e = e.0
 may-want (Listing traced s) input e = e.0
 may-want Migrating input e = e.0
 may-want (RecordingTape s) input e = refl
 may-want PlayingFile input e = e.0
 may-want (GuardingTape s) input e = e.0
+may-want (FilteringTape rules s) input e = e.0
 may-want (Selftesting start count) input e = e.0
 
-pub may-faulty : (c : Command) (input : List ℕ) (f : Fault) → Shows c input f → MayAnswer c (Stopped (Faulty f))
+pub may-faulty : (c : Task) (input : List ℕ) (f : Fault) → Shows c input f → MayAnswer c (Stopped (Faulty f))
 may-faulty c input (fault.Tape f) e = may-tape c input f e
 may-faulty c input (fault.File f) e = may-file c input f e
 may-faulty c input fault.LongTrack e = may-leave_out c input full.Track e
 may-faulty c input (fault.LongGap was now) e = may-leave_out c input (full.Gap was now) e
 may-faulty c input fault.Memory e = may-want c input e
+may-faulty c input (fault.Rules f) e = absurd e
 
 -- how the stopping went, by what was handed over
-pub stop-ran : (c : Command) (bytes : List ℕ) (was : List ℕ → Type 0) (took : List ℕ → Type 0) (stop : Stop)
+pub stop-ran : (c : Task) (bytes : List ℕ) (was : List ℕ → Type 0) (took : List ℕ → Type 0) (stop : Stop)
     (before now : Contents) → was bytes → (s : JobStopped c was took) → now ≡ after_write 1 s.given before →
     RanStop c bytes stop before now (Stopped stop)
 stop-ran c bytes was took stop before now stands s wrote =
     record { output = s.given; contents = wrote; ends = inl (refl, sym (s.beyond bytes stands)) }
 
-pub stop-halted : (c : Command) (bytes : List ℕ) (took : List ℕ → Type 0) (stop : Stop)
+pub stop-halted : (c : Task) (bytes : List ℕ) (took : List ℕ → Type 0) (stop : Stop)
     (before now : Contents) → (h : JobEndHaltedAt c bytes took) → now ≡ after_write 1 h.given before →
     RanStop c bytes stop before now (Stopped Refused)
 stop-halted c bytes took stop before now h wrote =
     record { output = h.given; contents = wrote; ends = inr (refl, h.part) }
 
 -- the end was read
-pub at-end : (c : Command) (before old now : Contents) (bytes buffer : List ℕ) (count : ℕ) →
+pub at-end : (c : Task) (before old now : Contents) (bytes buffer : List ℕ) (count : ℕ) →
     SoFar c before old bytes → Gives old now 0 count buffer → count ≡ 0 → 0 < length buffer →
     (SoFar c before now bytes) × (before.left 0 ≡ bytes)
 at-end c before old now bytes buffer count s g none room = (
@@ -324,7 +335,7 @@ at-end c before old now bytes buffer count s g none room = (
 )
 
 -- what the end did, behind what was written before
-pub ran-end : (c d : Command) (limit : ℕ) (before old now : Contents) (bytes : List ℕ) (status : Status) →
+pub ran-end : (c d : Task) (limit : ℕ) (before old now : Contents) (bytes : List ℕ) (status : Status) →
     d ≡ c → length bytes < limit → SoFar c before old bytes → before.left 0 ≡ bytes → RanEnd d bytes old now status →
     Ran c limit before now status
 ran-end c d limit before old now bytes status same below s all r =
@@ -340,13 +351,13 @@ ran-end c d limit before old now bytes status same below s all r =
       within = omega (arith, below);
       ends =
           subst (λ (xs : List ℕ). EndsAs c limit xs bytes (live_output_of c bytes ++ r.output) r.tally status) (sym all)
-          (subst (λ (x : Command). EndsAs x limit bytes bytes
+          (subst (λ (x : Task). EndsAs x limit bytes bytes
           (live_output_of x bytes ++ r.output) r.tally status) same
-          (r.ends limit below (ap (λ (x : Command). fault_of x bytes) same ∙ s.sound)));
+          (r.ends limit below (ap (λ (x : Task). fault_of x bytes) same ∙ s.sound)));
     }
 
 -- the answer at the end, by whether the input is cut and whether it was remarked
-ends-at : (c : Command) (limit : ℕ) (left input output tally : List ℕ) (cut noted : Bool) →
+ends-at : (c : Task) (limit : ℕ) (left input output tally : List ℕ) (cut noted : Bool) →
     DidAll c limit left input output tally → cut ≡ not (is_whole c input) →
     Remarked noted c input → EndsAs c limit left input output tally (at_end cut noted)
 ends-at c limit left input output tally true noted w is_cut remarked = (w, not-true (is_whole c input) is_cut)
@@ -355,14 +366,14 @@ ends-at c limit left input output tally false true w is_cut remarked =
 ends-at c limit left input output tally false false w is_cut remarked =
     (w, not-false (is_whole c input) is_cut, remarked)
 
-pub end-ran : (c d : Command) (before mid now : Contents) (bytes : List ℕ) (done : List ℕ → Type 0)
+pub end-ran : (c d : Task) (before mid now : Contents) (bytes : List ℕ) (done : List ℕ → Type 0)
     (cut noted : Bool) (took : List ℕ → Type 0) (status : Status) →
     d ≡ c → cut ≡ not (is_whole c bytes) →
     (e : JobEndedAt c bytes done noted took) → mid ≡ after_write 1 e.given before →
     Closed d done cut noted mid now status → RanEnd c bytes before now status
 end-ran c d before mid now bytes done cut noted took status same_command is_cut e wrote closed =
     let k : Closed c done cut noted mid now status
-    = subst (λ (x : Command). Closed x done cut noted mid now status) same_command closed in
+    = subst (λ (x : Task). Closed x done cut noted mid now status) same_command closed in
     record {
       output = e.given;
       tally = k.tally;
@@ -397,7 +408,7 @@ end-ran c d before mid now bytes done cut noted took status same_command is_cut 
     }
 
 -- the end shows what keeps it from being written
-pub kept-ran : (c : Command) (before now : Contents) (bytes : List ℕ) (was : List ℕ → Type 0) (f : Fault)
+pub kept-ran : (c : Task) (before now : Contents) (bytes : List ℕ) (was : List ℕ → Type 0) (f : Fault)
     (took : List ℕ → Type 0) → was bytes → JobKept c was f took → now ≡ after_write 1 [] before →
     RanEnd c bytes before now (Stopped (Faulty f))
 kept-ran c before now bytes was f took stands k wrote =
@@ -410,24 +421,24 @@ kept-ran c before now bytes was f took stands k wrote =
     }
 
 -- the tally was told, or a part of it
-pub tell-closed : (c : Command) (done : List ℕ → Type 0) (cut noted : Bool) (before now : Contents) (status : Status)
+pub tell-closed : (c : Task) (done : List ℕ → Type 0) (cut noted : Bool) (before now : Contents) (status : Status)
     (tells : List ℕ → Type 0) → status ≡ at_end cut noted → (t : JobTold c done tells) →
     now ≡ after_write 2 t.given before → Closed c done cut noted before now status
 tell-closed c done cut noted before now status tells same t told =
     record { tally = t.given; contents = told; ends = inl (same, t.tally) }
 
-pub tell-refused : (c : Command) (done : List ℕ → Type 0) (cut noted : Bool) (before now : Contents)
+pub tell-refused : (c : Task) (done : List ℕ → Type 0) (cut noted : Bool) (before now : Contents)
     (tells : List ℕ → Type 0) → (h : JobTellHalted c done tells) → now ≡ after_write 2 h.given before →
     Closed c done cut noted before now (Stopped Refused)
 tell-refused c done cut noted before now tells h told =
     record { tally = h.given; contents = told; ends = inr (refl, h.part) }
 
-pub cut-at : (d c : Command) (cut : Bool) (bytes : List ℕ) → d ≡ c → cut ≡ not (is_whole d bytes) →
+pub cut-at : (d c : Task) (cut : Bool) (bytes : List ℕ) → d ≡ c → cut ≡ not (is_whole d bytes) →
     cut ≡ not (is_whole c bytes)
-cut-at d c cut bytes same h = h ∙ ap (λ (x : Command). not (is_whole x bytes)) same
+cut-at d c cut bytes same h = h ∙ ap (λ (x : Task). not (is_whole x bytes)) same
 
 -- the end was refused
-pub end-halted : (c : Command) (before now : Contents) (bytes : List ℕ) (took : List ℕ → Type 0) →
+pub end-halted : (c : Task) (before now : Contents) (bytes : List ℕ) (took : List ℕ → Type 0) →
     (h : JobEndHaltedAt c bytes took) → now ≡ after_write 1 h.given before →
     RanEnd c bytes before now (Stopped Refused)
 end-halted c before now bytes took h wrote =
@@ -439,7 +450,7 @@ end-halted c before now bytes took h wrote =
     }
 
 -- a piece was refused
-pub ran-halted : (c : Command) (limit count : ℕ) (before old now : Contents) (bytes piece given : List ℕ) →
+pub ran-halted : (c : Task) (limit count : ℕ) (before old now : Contents) (bytes piece given : List ℕ) →
     length piece ≡ count → length bytes + count ≤ limit → count ≤ PIECE → Read c before old bytes piece →
     now ≡ after_write 1 given old →
     IsPart (live_output_of c bytes ++ given) (live_output_of c (bytes ++ piece)) →
@@ -466,19 +477,19 @@ ran-halted c limit count before old now bytes piece given size within few s wrot
     }
   where
     whole : IsPart (live_output_of c bytes ++ given) (output_of c (bytes ++ piece))
-    whole = part-within _ _ _ part (command-closes c (bytes ++ piece))
+    whole = part-within _ _ _ part (task-closes c (bytes ++ piece))
 
 -- what a job says, at the command that it began with
-pub fed-at : (d c : Command) (was now stops : List ℕ → Type 0) (piece : List ℕ) (fault other : Option Fault)
+pub fed-at : (d c : Task) (was now stops : List ℕ → Type 0) (piece : List ℕ) (fault other : Option Fault)
     (took : List ℕ → Type 0) → d ≡ c → fault ≡ other →
     JobFed d was now stops piece fault took → JobFed c was now stops piece other took
 fed-at d c was now stops piece fault other took same told f =
     subst (λ (x : Option Fault). JobFed c was now stops piece x took) told
-    (subst (λ (x : Command). JobFed x was now stops piece fault took) same f)
+    (subst (λ (x : Task). JobFed x was now stops piece fault took) same f)
 
-pub halted-at : (d c : Command) (was : List ℕ → Type 0) (piece : List ℕ) (took : List ℕ → Type 0) → d ≡ c →
+pub halted-at : (d c : Task) (was : List ℕ → Type 0) (piece : List ℕ) (took : List ℕ → Type 0) → d ≡ c →
     JobHalted d was piece took → JobHalted c was piece took
-halted-at d c was piece took same f = subst (λ (x : Command). JobHalted x was piece took) same f
+halted-at d c was piece took same f = subst (λ (x : Task). JobHalted x was piece took) same f
 
 -- the front of a buffer whose front was filled
 pub piece-is : (filled rest : List ℕ) (count : ℕ) → count ≤ length filled →
@@ -490,7 +501,7 @@ pub piece-size : (filled rest : List ℕ) (count : ℕ) → count ≤ length fil
 piece-size filled rest count within = length-take-le count (filled ++ rest) (omega (arith, length-append filled rest))
 
 -- one more piece went through
-pub so_far-fed : {S : Type 0} (tells : Bool) (contents : S → Contents) (read_faults : S → ℕ) (c : Command)
+pub so_far-fed : {S : Type 0} (tells : Bool) (contents : S → Contents) (read_faults : S → ℕ) (c : Task)
     (was goes stops : List ℕ → Type 0) (start old mid now : S) (bytes piece buffer : List ℕ) (taken count : ℕ) →
     JobFed c was goes stops piece None (λ given. Wrote tells contents read_faults 1 mid given now) →
     length bytes ≡ taken → length piece ≡ count → was bytes →
@@ -510,23 +521,23 @@ so_far-fed tells contents read_faults c was goes stops start old mid now bytes p
 
 -- what the end shows, by its answer
 
-pub ended-quiet : (c : Command) (was now : List ℕ → Type 0) (told : Ending) (took : List ℕ → Type 0) →
+pub ended-quiet : (c : Task) (was now : List ℕ → Type 0) (told : Ending) (took : List ℕ → Type 0) →
     told ≡ ending.Quiet → JobEndedAs c was now told took → JobEnded c was now false took
 ended-quiet c was now told took e h = subst (λ (x : Ending). JobEndedAs c was now x took) e h
 
-pub ended-noted : (c : Command) (was now : List ℕ → Type 0) (told : Ending) (took : List ℕ → Type 0) →
+pub ended-noted : (c : Task) (was now : List ℕ → Type 0) (told : Ending) (took : List ℕ → Type 0) →
     told ≡ ending.Noted → JobEndedAs c was now told took → JobEnded c was now true took
 ended-noted c was now told took e h = subst (λ (x : Ending). JobEndedAs c was now x took) e h
 
-pub ended-kept : (c : Command) (was now : List ℕ → Type 0) (told : Ending) (f : Fault) (took : List ℕ → Type 0) →
+pub ended-kept : (c : Task) (was now : List ℕ → Type 0) (told : Ending) (f : Fault) (took : List ℕ → Type 0) →
     told ≡ ending.Kept f → JobEndedAs c was now told took → JobKept c was f took
 ended-kept c was now told f took e h = subst (λ (x : Ending). JobEndedAs c was now x took) e h
 
-pub may-kept : (c d : Command) (was : List ℕ → Type 0) (f : Fault) (took : List ℕ → Type 0) → d ≡ c →
+pub may-kept : (c d : Task) (was : List ℕ → Type 0) (f : Fault) (took : List ℕ → Type 0) → d ≡ c →
     ((bytes : List ℕ) × was bytes × (length bytes ≤ 2 ^ 40)) → JobKept d was f took →
     MayAnswer c (Stopped (Faulty f))
 may-kept c d was f took same w k =
-    may-faulty c w.0 f (subst (λ (x : Command). Shows x w.0 f) same (k.shows w.0 w.1))
+    may-faulty c w.0 f (subst (λ (x : Task). Shows x w.0 f) same (k.shows w.0 w.1))
 
 -- faults of reading and writing
 
@@ -536,7 +547,7 @@ false-true e = cc
 not-read_fault : Stopped Refused ≡ Stopped ReadFault → ⊥
 not-read_fault e = cc
 
-pub stop-faults : (c d : Command) (stop : Stop) (reads reads_mid reads_now writes writes_mid writes_now : ℕ)
+pub stop-faults : (c d : Task) (stop : Stop) (reads reads_mid reads_now writes writes_mid writes_now : ℕ)
     (status : Status) → d ≡ c → Faulted (writes_at_stop c ≡ false) reads reads_mid writes writes_mid (Stopped stop) →
     HasStopped d stop writes_mid writes_now status → reads_now ≡ reads_mid →
     Faulted (writes_at_stop c ≡ false) reads reads_now writes writes_now status
@@ -603,6 +614,7 @@ stops-later (job.Migrate tape) bytes h = h
 stops-later (job.Record s recording) bytes h = tt
 stops-later (job.Play playing) bytes h = h
 stops-later (job.Guard guarding) bytes h = h
+stops-later (job.Filter filtering) bytes h = h
 
 pub stop-stands : (j : Job) (bytes piece : List ℕ) (count limit : ℕ) → JobStops j (bytes ++ piece) →
     length piece ≡ count → length bytes + count ≤ limit → limit ≤ 2 ^ 40 →
@@ -610,7 +622,7 @@ pub stop-stands : (j : Job) (bytes piece : List ℕ) (count limit : ℕ) → Job
 stop-stands j bytes piece count limit h size within most =
     (bytes ++ piece, h, omega (arith, length-append bytes piece, size, within, most))
 
-pub so_far-same : (c : Command) (before old now : Contents) (bytes : List ℕ) → now ≡ old → SoFar c before old bytes →
+pub so_far-same : (c : Task) (before old now : Contents) (bytes : List ℕ) → now ≡ old → SoFar c before old bytes →
     SoFar c before now bytes
 so_far-same c before old now bytes same s = record { front = s.front; contents = same ∙ s.contents; sound = s.sound }
 
@@ -644,7 +656,7 @@ no_fault-told quiet stop reads reads_now writes writes_now no_read no_write stil
 
 -- the same of another taker
 
-pub ended-took : {E : Type 0} (res : Result Ending E) (c : Command) (was now : List ℕ → Type 0)
+pub ended-took : {E : Type 0} (res : Result Ending E) (c : Task) (was now : List ℕ → Type 0)
     (took other : List ℕ → Type 0) → ((x : List ℕ) → took x → other x) →
     IfOk res (λ told. JobEndedAs c was now told took) → IfOk res (λ told. JobEndedAs c was now told other)
 ended-took (Err x) c was now took other moved h = tt
@@ -668,11 +680,42 @@ ended-took (Ok told) c was now took other moved h = by told h
     by (ending.Kept f) e =
         record { took_none = moved [] e.took_none; none_live = e.none_live; shows = e.shows }
 
-pub halted-took : {T E : Type 0} (res : Result T E) (c : Command) (was : List ℕ → Type 0) (took other : List ℕ → Type 0) →
+pub halted-took : {T E : Type 0} (res : Result T E) (c : Task) (was : List ℕ → Type 0) (took other : List ℕ → Type 0) →
     ((x : List ℕ) → took x → other x) → OnErr res (JobEndHalted c was took) → OnErr res (JobEndHalted c was other)
 halted-took (Ok x) c was took other moved h = tt
 halted-took (Err x) c was took other moved h = λ bytes s.
     let r = h bytes s in record { given = r.given; took_it = moved r.given r.took_it; part = r.part }
+
+-- a command that takes no rules began on the desk as it was
+pub command-ran : (c : Command) (t : Task) (limit : ℕ) (before after : Contents) (status : Status) →
+    t ≡ with_rules [] c → takes_rules c ≡ false → reads_from c 0 ≡ true → Ran t limit before after status →
+    CommandRan c limit before after status
+command-ran c t limit before after status same plain reads ran =
+    let r = subst (λ (x : Task). Ran x limit before after status) same ran in
+    record {
+      start = before;
+      opened = inl refl;
+      input = r.input;
+      output = r.output;
+      tally = r.tally;
+      contents = r.contents;
+      front = r.front;
+      unread = λ none. absurd (false-true (sym none ∙ reads));
+      within = r.within;
+      ends = inl (record { rules = []; got_them = got-plain c before before plain; holds = r.ends });
+    }
+
+pub command-may : (c : Command) (t : Task) (status : Status) → t ≡ with_rules [] c → MayAnswer t status →
+    CommandMay c status
+command-may c t status same may =
+    record { rules = []; may = subst (λ (x : Task). MayAnswer x status) same may }
+
+pub command-faults : (c : Command) (t : Task) (reads reads_now writes writes_now : ℕ) (status : Status) →
+    t ≡ with_rules [] c → Faulted (writes_at_stop t ≡ false) reads reads_now writes writes_now status →
+    Faulted (writes_at_stop c ≡ false) reads reads_now writes writes_now status
+command-faults c t reads reads_now writes writes_now status same f =
+    subst (λ (stops : Bool). Faulted (stops ≡ false) reads reads_now writes writes_now status)
+    (ap writes_at_stop same ∙ quiet-task [] c) f
 
 -- there was no memory for what a command needs
 pub nothing-ran : (c : Command) (limit : ℕ) (before : Contents) → may_want_memory c ≡ true →
@@ -682,18 +725,22 @@ nothing-ran (Listing traced s) limit before e = cc
 nothing-ran Migrating limit before e = cc
 nothing-ran PlayingFile limit before e = cc
 nothing-ran (GuardingTape s) limit before e = cc
+nothing-ran (FilteringTape file s) limit before e = cc
 nothing-ran (Selftesting start count) limit before e = cc
 nothing-ran (RecordingTape s) limit before e =
     record {
-      ran = record {
-        input = [];
-        output = [];
-        tally = [];
-        contents = sym (after_write-none 2 (after_write 1 [] (after_read 0 0 before))
-            ∙ (after_write-none 1 (after_read 0 0 before) ∙ after_read-none 0 before));
-        front = (before.left 0, refl);
-        within = omega arith;
-        ends = (refl, refl, tt);
-      };
+      start = before;
+      opened = inl refl;
+      input = [];
+      output = [];
+      tally = [];
+      contents = sym (written-nothing before);
+      front = (before.left 0, refl);
       unread = λ e. refl;
+      within = omega arith;
+      ends = inl (record { rules = []; got_them = tt; holds = (refl, refl, tt) });
     }
+
+pub memory-wanted : (c : Command) → may_want_memory c ≡ true →
+    CommandMay c (Stopped (Faulty fault.Memory))
+memory-wanted c e = record { rules = []; may = memory-task [] c ∙ e }

@@ -14,7 +14,7 @@ use Rattle.mb_frames.proofs.MigratingLemmas.{after-split, fault-all, tape2-then}
 use Rattle.mb_words.specs.Command.{Migrating}
 use Rattle.mb_top.specs.Output.{in_tape, is_whole}
 use Rattle.mb_top.specs.declared.fault.Fault.{Fault}
-use Rattle.mb_top.specs.Job.{job_command, JobStands, JobStops, JobDone, JobFed, JobHalted, JobEnded, JobTold}
+use Rattle.mb_top.specs.Job.{job_task, JobStands, JobStops, JobDone, JobFed, JobHalted, JobEnded, JobTold}
 use Rattle.mb_top.proofs.KeptLemmas.{kept-tape}
 use Rattle.mb_top.specs.declared.job.Job.{Job}
 use Rattle.mb_top.specs.declared.job.Job.TheVariants as job
@@ -49,17 +49,17 @@ fed-by tape now piece fault took state told given =
 pub job-tape_fed : (j : Job) (tape now : TapeState) (piece : List ℕ) (told : Option TapeFault) (fault : Option Fault)
     (took : List ℕ → Type 0) → j ≡ job.Migrate tape → fault ≡ in_tape told → now ≡ after tape piece →
     told ≡ fault_in (ending_at (after tape piece)) → took (migrated_from tape piece) →
-    JobFed (job_command j) (JobStands j) (JobStands (job.Migrate now)) (JobStops (job.Migrate now)) piece fault took
+    JobFed (job_task j) (JobStands j) (JobStands (job.Migrate now)) (JobStops (job.Migrate now)) piece fault took
 job-tape_fed j tape now piece told fault took e is state told_is given =
-    subst (λ (k : Job). JobFed (job_command k) (JobStands k) (Stands now) (Stands now) piece fault took) (sym e)
+    subst (λ (k : Job). JobFed (job_task k) (JobStands k) (Stands now) (Stands now) piece fault took) (sym e)
     (subst (λ (x : Option Fault). JobFed Migrating (Stands tape) (Stands now) (Stands now) piece x took) (sym is)
     (fed-by tape now piece told took state told_is given))
 
 pub job-tape_halted : (j : Job) (tape : TapeState) (piece : List ℕ) (took : List ℕ → Type 0) → j ≡ job.Migrate tape →
     ((front : List ℕ) × IsPart front (migrated_from tape piece) × took front) →
-    JobHalted (job_command j) (JobStands j) piece took
+    JobHalted (job_task j) (JobStands j) piece took
 job-tape_halted j tape piece took e front =
-    subst (λ (k : Job). JobHalted (job_command k) (JobStands k) piece took) (sym e)
+    subst (λ (k : Job). JobHalted (job_task k) (JobStands k) piece took) (sym e)
     (record {
       given = front.0;
       took_it = front.2;
@@ -71,9 +71,9 @@ job-tape_halted j tape piece took e front =
     })
 
 pub job-tape_ended : (j : Job) (tape : TapeState) (took : List ℕ → Type 0) → j ≡ job.Migrate tape → took [] →
-    JobEnded (job_command j) (JobStands j) (JobDone j) false took
+    JobEnded (job_task j) (JobStands j) (JobDone j) false took
 job-tape_ended j tape took e none =
-    subst (λ (k : Job). JobEnded (job_command k) (JobStands k) (JobDone k) false took) (sym e)
+    subst (λ (k : Job). JobEnded (job_task k) (JobStands k) (JobDone k) false took) (sym e)
     (λ bytes h. record {
       given = [];
       took_it = none;
@@ -84,16 +84,16 @@ job-tape_ended j tape took e none =
     })
 
 pub job-tape_cut : (j : Job) (tape : TapeState) (cut : Bool) (bytes : List ℕ) → j ≡ job.Migrate tape →
-    JobStands j bytes → cut ≡ not (tapes.is_whole (ending_at tape)) → cut ≡ not (is_whole (job_command j) bytes)
+    JobStands j bytes → cut ≡ not (tapes.is_whole (ending_at tape)) → cut ≡ not (is_whole (job_task j) bytes)
 job-tape_cut j tape cut bytes e h told =
     let stands : Stands tape bytes = subst (λ (k : Job). JobStands k bytes) e h in
     told
     ∙ (ap (λ (t : TapeState). not (tapes.is_whole (ending_at t))) stands
     ∙ (ap (λ (x : tapes.TapeEnd). not (tapes.is_whole x)) (tape-reads bytes).ending
-    ∙ ap (λ (k : Job). not (is_whole (job_command k) bytes)) (sym e)))
+    ∙ ap (λ (k : Job). not (is_whole (job_task k) bytes)) (sym e)))
 
 pub job-tape_told : (j : Job) (tape : TapeState) (took : List ℕ → Type 0) → j ≡ job.Migrate tape → took [] →
-    JobTold (job_command j) (JobDone j) took
+    JobTold (job_task j) (JobDone j) took
 job-tape_told j tape took e none =
-    subst (λ (k : Job). JobTold (job_command k) (JobDone k) took) (sym e)
+    subst (λ (k : Job). JobTold (job_task k) (JobDone k) took) (sym e)
     (record { given = []; took_it = none; tally = λ bytes h. refl })

@@ -4,18 +4,21 @@
 --   OfConversionSoFar   the same before the end of its input, no write having failed
 --   OfRewriting ..      of a command that writes all that the input so far gives, also where it is stopped, where no
 --                       write failed: by what it read and wrote
+--   OfFiltering ..      of a tape that is filtered by rules that were read: by them, its spec, what it read and wrote
 --   OfRecording ..      of a tape that is recorded: by its spec, what it read and what it wrote
 --   OfListing ..        of a listing: by whether it is traced, its spec, what it read and what it wrote
 --   OfReader ..         of a command that reads one recording: by its spec, and all that there was to read
 --   IsTallied ..        the tally that a command asks for stands first on standard error
 --   Unhindered ..       no call failed
-use Rattle.std.specs.Prelude.{◌≡◌, ℕ, Bool, true, List, IsTrue}
+use Rattle.std.specs.Prelude.{◌≡◌, ℕ, Bool, true, List, [], IsTrue}
 use Rattle.mb_outside.specs.Contents.{Contents}
 use Rattle.mb_carrier.specs.declared.spec.Spec.{Spec}
-use Rattle.mb_words.specs.Command.{Command, Converting, Listing, RecordingTape, Means, Selftesting}
+use Rattle.mb_filter.specs.declared.rule.Rule.{Rule}
+use Rattle.mb_words.specs.Command.{Command, Converting, FilteringTape, Listing, RecordingTape, Means, Selftesting}
 use Rattle.mb_outside.specs.Cause.{Rose}
 use Rattle.mb_message.specs.Front.{IsFront}
 use Rattle.mb_top.specs.Output.{ReadsOne, tally_of}
+use Rattle.mb_top.specs.RulesFile.{HasRules}
 use Rattle.mb_top.specs.Answer.{taken_off, added_to, read_all, read_part}
 
 abbrev pub OfConversion : (tells : Bool) (words : List (List ℕ)) (answer : ℕ) (before after : Contents)
@@ -36,6 +39,15 @@ abbrev pub OfRewriting : (tells : Bool) (words : List (List ℕ)) (answer : ℕ)
     (claim : (read written : List ℕ) → Type 0) → Type 0
 OfRewriting tells words answer before after c claim =
     IsTrue tells → Means words c → (answer ≡ 4 → ⊥) → claim (taken_off 0 before after) (added_to 1 before after)
+
+-- it wrote its tape's magic at least, so where it answers 3 and wrote nothing there were no rules
+abbrev pub OfFiltering : (tells : Bool) (words : List (List ℕ)) (answer : ℕ) (before after : Contents)
+    (claim : (rules : List Rule) (s : Spec) (read written : List ℕ) → Type 0) → Type 0
+OfFiltering tells words answer before after claim =
+    (file : List ℕ) (s : Spec) → IsTrue tells → Means words (FilteringTape file s) → (answer ≡ 14 → ⊥) →
+    (answer ≡ 3 → added_to 1 before after ≡ [] → ⊥) →
+    (rules : List Rule) × HasRules file before after rules
+    × claim rules s (taken_off 0 before after) (added_to 1 before after)
 
 abbrev pub OfRecording : (tells : Bool) (words : List (List ℕ)) (before after : Contents)
     (claim : (s : Spec) (read written : List ℕ) → Type 0) → Type 0

@@ -1,7 +1,8 @@
 -- Inside the top call: what a command did before its answer was said.
 --
---   Ran c ..               a command read these bytes and wrote those, and changed nothing else
---   CommandRan c ..           the same, and a command that reads nothing read none
+--   Ran c ..               a task read these bytes and wrote those, and changed nothing else
+--   CommandRan c ..        the same of a command, whose rules, if it takes any, were read before; one that reads nothing
+--                          read none
 --   RanEnd c bytes ..      the same at the end of an input of which what is known was written before
 --   RanWords words ..      the same for words, which may mean no command
 --   Closed, HasClosed      the tally was told at the end
@@ -14,14 +15,18 @@ use Rattle.std.specs.Prelude.{◌≡◌, ℕ, ◌<◌, ◌≤◌, Bool, true, fa
 use Rattle.mb_outside.specs.Cause.{Rose}
 use Rattle.mb_outside.specs.Contents.{Contents, after_read, after_write}
 use Rattle.mb_message.specs.Front.{IsFront}
-use Rattle.mb_words.specs.Command.{Command, Means}
+use Rattle.mb_filter.specs.declared.rule.Rule.{Rule}
+use Rattle.mb_carrier.specs.declared.spec.Spec.{Spec}
+use Rattle.mb_words.specs.Command.{Command, CommandOf, FilteringTape, Means}
 use Rattle.mb_message.specs.Front.{IsPart}
 use Rattle.mb_top.specs.Output.{live_output_of, output_of, stopped_output_of, may_want_memory, answers_notes, fault_of}
 use Rattle.mb_top.specs.Output.{tally_of}
-use Rattle.mb_top.specs.Output.{reads_tape, reads_file, reads_from, records, writes_at_stop}
+use Rattle.mb_top.specs.Output.{reads_tape, reads_file, reads_from, records, takes_rules, writes_at_stop}
+use Rattle.mb_top.specs.RulesFile.{Opened}
+use Rattle.mb_top.specs.Task.{Task, with_rules}
 use Rattle.mb_top.specs.declared.fault.Fault.TheVariants as fault
 use Rattle.mb_top.specs.declared.status.Stop.{Stop}
-use Rattle.mb_top.specs.Answer.{EndsAs}
+use Rattle.mb_top.specs.Answer.{ByRules, EndsAs, GotNone, GotRules}
 use Rattle.mb_top.specs.declared.status.Status.{Status}
 use Rattle.mb_top.specs.declared.status.Status.TheVariants.{Done, Noted, Usage, Cut, Stopped}
 use Rattle.mb_top.specs.declared.status.Stop.TheVariants.{ReadFault, Refused, Faulty, TooLong}
@@ -30,7 +35,7 @@ use Rattle.mb_top.specs.declared.status.Stop.TheVariants.{ReadFault, Refused, Fa
 abbrev pub written_of : (input output tally : List ℕ) → Contents → Contents
 written_of input output tally c = after_write 2 tally (after_write 1 output (after_read 0 (length input) c))
 
-pub record Ran (c : Command) (limit : ℕ) (before after : Contents) (status : Status) : Type 0 where
+pub record Ran (c : Task) (limit : ℕ) (before after : Contents) (status : Status) : Type 0 where
   pub input : List ℕ
   pub output : List ℕ
   pub tally : List ℕ
@@ -39,20 +44,41 @@ pub record Ran (c : Command) (limit : ℕ) (before after : Contents) (status : S
   pub within : length input ≤ limit
   pub ends : EndsAs c limit (before.left 0) input output tally status
 
-pub record CommandRan (c : Command) (limit : ℕ) (before after : Contents) (status : Status) : Type 0 where
-  pub ran : Ran c limit before after status
-  pub unread : reads_from c 0 ≡ false → ran.input ≡ []
+-- nothing was read or written
+abbrev pub RanNothing : (input output tally : List ℕ) → Type 0
+RanNothing input output tally = (input ≡ []) × (output ≡ []) × (tally ≡ [])
 
-pub record RanWords (words : List (List ℕ)) (limit : ℕ) (before after : Contents) (status : Status) : Type 0 where
+-- what an answer says of a command, from the desk on that its rules left
+abbrev pub EndsCommand : Command → (limit : ℕ) (before start : Contents) (input output tally : List ℕ) → Status → Type 0
+EndsCommand c limit before start input output tally status =
+    ByRules c (GotRules c before start) (λ t. EndsAs t limit (before.left 0) input output tally status)
+    ⊎ (RanNothing input output tally × GotNone c before start status)
+
+pub record CommandRan (c : Command) (limit : ℕ) (before after : Contents) (status : Status) : Type 0 where
+  pub start : Contents
+  pub opened : (start ≡ before) ⊎ ((file : List ℕ) × (s : Spec) × (c ≡ FilteringTape file s) × Opened before start file)
   pub input : List ℕ
   pub output : List ℕ
   pub tally : List ℕ
-  pub contents : after ≡ written_of input output tally before
+  pub contents : after ≡ written_of input output tally start
   pub front : IsFront input (before.left 0)
-  pub nothing : status ≡ Usage → (input ≡ []) × (output ≡ []) × (tally ≡ [])
+  pub unread : reads_from c 0 ≡ false → input ≡ []
+  pub within : length input ≤ limit
+  pub ends : EndsCommand c limit before start input output tally status
+
+pub record RanWords (words : List (List ℕ)) (limit : ℕ) (before after : Contents) (status : Status) : Type 0 where
+  pub start : Contents
+  pub opened : (start ≡ before)
+      ⊎ ((file : List ℕ) × (s : Spec) × Means words (FilteringTape file s) × Opened before start file)
+  pub input : List ℕ
+  pub output : List ℕ
+  pub tally : List ℕ
+  pub contents : after ≡ written_of input output tally start
+  pub front : IsFront input (before.left 0)
+  pub nothing : status ≡ Usage → RanNothing input output tally
   pub unread : (c : Command) → Means words c → reads_from c 0 ≡ false → input ≡ []
   pub within : length input ≤ limit
-  pub ends : (c : Command) → Means words c → EndsAs c limit (before.left 0) input output tally status
+  pub ends : (c : Command) → Means words c → EndsCommand c limit before start input output tally status
 
 pub record Faulted (quiet : Type 0) (reads reads_now writes writes_now : ℕ) (status : Status) : Type 0 where
   pub reads_later : reads ≤ reads_now
@@ -68,7 +94,7 @@ at_end false true = Noted
 at_end false false = Done
 
 -- the end of an input without a fault, of which what is known was written before
-pub record RanEnd (c : Command) (bytes : List ℕ) (before after : Contents) (status : Status) : Type 0 where
+pub record RanEnd (c : Task) (bytes : List ℕ) (before after : Contents) (status : Status) : Type 0 where
   pub output : List ℕ
   pub tally : List ℕ
   pub contents : after ≡ after_write 2 tally (after_write 1 output before)
@@ -76,7 +102,7 @@ pub record RanEnd (c : Command) (bytes : List ℕ) (before after : Contents) (st
       EndsAs c limit bytes bytes (live_output_of c bytes ++ output) tally status
 
 -- an input that ended was told of: how many bytes crossed each spec, all of it or a part
-pub record Closed (c : Command) (done : List ℕ → Type 0) (cut noted : Bool) (before after : Contents) (status : Status)
+pub record Closed (c : Task) (done : List ℕ → Type 0) (cut noted : Bool) (before after : Contents) (status : Status)
     : Type 0 where
   pub tally : List ℕ
   pub contents : after ≡ after_write 2 tally before
@@ -88,7 +114,7 @@ HasClosed closing writes writes_now status =
     ((status ≡ closing) × (writes_now ≡ writes)) ⊎ ((status ≡ Stopped Refused) × Rose writes writes_now × (writes ≤ writes_now))
 
 -- an input was stopped: what is owed then was written, or a part of what all of it gives
-pub record RanStop (c : Command) (bytes : List ℕ) (stop : Stop) (before after : Contents) (status : Status) : Type 0
+pub record RanStop (c : Task) (bytes : List ℕ) (stop : Stop) (before after : Contents) (status : Status) : Type 0
   where
     pub output : List ℕ
     pub contents : after ≡ after_write 1 output before
@@ -96,14 +122,14 @@ pub record RanStop (c : Command) (bytes : List ℕ) (stop : Stop) (before after 
         ⊎ ((status ≡ Stopped Refused) × IsPart (live_output_of c bytes ++ output) (output_of c bytes))
 
 -- it ends as it was stopped, or because what it still wrote was refused
-abbrev pub HasStopped : Command → Stop → (writes writes_now : ℕ) → Status → Type 0
+abbrev pub HasStopped : Task → Stop → (writes writes_now : ℕ) → Status → Type 0
 HasStopped c stop writes writes_now status =
     ((status ≡ Stopped stop) × (writes_now ≡ writes))
     ⊎ ((status ≡ Stopped Refused) × Rose writes writes_now × (writes ≤ writes_now) × (writes_at_stop c ≡ true))
 
 -- want of memory is answered of commands alone that may want it, notes of `check` alone, what may be wrong of an input
--- of those that read one, and a fault of a tape or of a file of those that read one
-abbrev pub MayAnswer : Command → Status → Type 0
+-- of those that read one, a fault of a tape or of a file of those that read one, and one of rules of those that take any
+abbrev pub MayAnswer : {R : Type 0} → CommandOf R → Status → Type 0
 MayAnswer c Usage = ⊥
 MayAnswer c Noted = answers_notes c ≡ true
 MayAnswer c Cut = reads_from c 0 ≡ true
@@ -114,8 +140,14 @@ MayAnswer c (Stopped (Faulty (fault.File f))) = reads_file c ≡ true
 MayAnswer c (Stopped (Faulty fault.LongTrack)) = records c ≡ true
 MayAnswer c (Stopped (Faulty (fault.LongGap was now))) = records c ≡ true
 MayAnswer c (Stopped (Faulty fault.Memory)) = may_want_memory c ≡ true
+MayAnswer c (Stopped (Faulty (fault.Rules f))) = takes_rules c ≡ true
 MayAnswer c _ = Unit {0}
+
+-- the same of a command, whatever its rules
+pub record CommandMay (c : Command) (status : Status) : Type 0 where
+  pub rules : List Rule
+  pub may : MayAnswer (with_rules rules c) status
 
 pub record MayAnswerWords (words : List (List ℕ)) (status : Status) : Type 0 where
   pub usage : status ≡ Usage → (c : Command) → Means words c → ⊥
-  pub other : (status ≡ Usage → ⊥) → (c : Command) × Means words c × MayAnswer c status
+  pub other : (status ≡ Usage → ⊥) → (c : Command) × Means words c × CommandMay c status

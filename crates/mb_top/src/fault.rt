@@ -1,5 +1,6 @@
 //! What keeps a command from going on with its input.
 
+use mb_filter::RulesFault;
 use mb_frames::TapeFault;
 use mb_smf::SmfFault;
 
@@ -16,4 +17,6 @@ pub(crate) enum Fault {
     LongGap { was: u64, now: u64 },
     /// There is no memory.
     Memory,
+    /// The rules of a filter have a fault.
+    Rules(RulesFault),
 }

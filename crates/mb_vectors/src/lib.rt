@@ -14,6 +14,8 @@ mod conversion;
 #[cfg(test)]
 mod faults;
 #[cfg(test)]
+mod filtering;
+#[cfg(test)]
 mod fire;
 #[cfg(test)]
 mod listing;

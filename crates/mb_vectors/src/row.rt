@@ -1,5 +1,7 @@
 //! One row of a table: words and an input, and what must come.
 
+ghost use Rattle.std.specs.Prelude.{◌≡◌, []};
+
 use mb_outside::{Args, MemoryDesk};
 use mb_top::{LIMIT, bridge_within};
 use std::alloc::Global;
@@ -68,8 +70,10 @@ pub fn words(rt: &impl Abort, alloc: Global, words: &[&str]) -> Args {
     args
 }
 
-/// A desk with an input.
-pub fn desk(rt: &impl Abort, alloc: Global, input: &[u8], setting: Setting) -> MemoryDesk {
+/// A desk with an input, and no files.
+pub fn desk(rt: &impl Abort, alloc: Global, input: &[u8], setting: Setting) -> MemoryDesk
+    ensures { result.files ≡ [] }
+{
     let mut desk = MemoryDesk::new(alloc, setting.room).expect(rt, "memory");
     desk.put_input(input).expect(rt, "memory");
     if let Some(call) = setting.fault {
@@ -103,9 +107,14 @@ pub fn run_in_pieces(rt: &impl Abort, alloc: Global, row: &Row<'_>) {
 
 /// Runs a row.
 pub fn run(rt: &impl Abort, alloc: Global, row: &Row<'_>, setting: Setting) {
-    let args = words(rt, alloc, row.words);
     let mut desk = desk(rt, alloc, row.input, setting);
-    let status = bridge_within(alloc, &args, &mut desk, setting.limit.min(LIMIT));
+    run_at(rt, alloc, row, &mut desk, setting.limit);
+}
+
+/// Runs a row at a desk that has its input.
+pub fn run_at(rt: &impl Abort, alloc: Global, row: &Row<'_>, desk: &mut MemoryDesk, limit: u64) {
+    let args = words(rt, alloc, row.words);
+    let status = bridge_within(alloc, &args, desk, limit.min(LIMIT));
     assert!(rt; status == row.status, "{}: status {status}", row.shows);
     assert!(rt; desk.is_written(1, row.output), "{}: output", row.shows);
     assert!(rt;

@@ -27,6 +27,12 @@ fn command_of(rt: &impl Abort, alloc: Global, words: &[&str]) -> ArrayVec<u8, 64
         Ok(Command::Play) => b"play",
         Ok(Command::Guard(Spec::Usb(_))) => b"guard",
         Ok(
+            Command::Filter {
+                file: "rules.txt",
+                spec: Spec::Ble(512),
+            },
+        ) => b"filter",
+        Ok(
             Command::Selftest {
                 start: 2147483647,
                 count: 1000000,
@@ -61,6 +67,11 @@ const WORDS: &[(&[&str], &[u8])] = &[
     (&["play", "din"], b"none"),
     (&["guard", "usb:3"], b"guard"),
     (&["guard", "usb:16"], b"none"),
+    (&["filter", "rules.txt", "ble/512"], b"filter"),
+    (&["filter", "another.txt", "ble/512"], b"another"),
+    (&["filter", "din", "rules.txt"], b"none"),
+    (&["filter", "din"], b"none"),
+    (&["filter", "rules.txt", "din", "din"], b"none"),
     (&["selftest", "0", "0"], b"a self-test"),
     (
         &["selftest", "2147483647", "1000000"],

@@ -9,9 +9,9 @@ use Rattle.mb_carrier.specs.declared.spec.Spec.TheVariants.{Din, Usb, Fire, Ble}
 use Rattle.mb_carrier.proofs.WordLemmas.{one_spec, word-is_spec, first_letter, size-letter}
 use Rattle.std.specs.Prelude.{Option, Some, None}
 use Rattle.mb_words.specs.Command.{Command, Converting, Listing, Migrating, RecordingTape, PlayingFile, GuardingTape}
-use Rattle.mb_words.specs.Command.{Selftesting, CommandName, ToConvert, ToTrace, ToCheck, ToMigrate, ToRecord, ToPlay}
-use Rattle.mb_words.specs.Command.{ToGuard, ToSelftest, Means, AreWordsOf, name_word, command_name, name_of, asks_tally}
-use Rattle.mb_words.specs.Command.{specs_of, options_of}
+use Rattle.mb_words.specs.Command.{FilteringTape, Selftesting, CommandName, ToConvert, ToTrace, ToCheck, ToMigrate}
+use Rattle.mb_words.specs.Command.{ToRecord, ToPlay, ToGuard, ToFilter, ToSelftest, Means, AreWordsOf, name_word}
+use Rattle.mb_words.specs.Command.{command_name, name_of, asks_tally, specs_of, options_of}
 use Rattle.mb_words.specs.Meaning.{front_of, end_of, converting}
 
 pub heads : (x y : List ℕ) (xs ys : List (List ℕ)) → x ∷ xs ≡ y ∷ ys → x ≡ y
@@ -97,7 +97,8 @@ named w =
     else (if bytes_eq w (codes "record") then Some ToRecord
     else (if bytes_eq w (codes "play") then Some ToPlay
     else (if bytes_eq w (codes "guard") then Some ToGuard
-    else (if bytes_eq w (codes "selftest") then Some ToSelftest else None)))))))
+    else (if bytes_eq w (codes "filter") then Some ToFilter
+    else (if bytes_eq w (codes "selftest") then Some ToSelftest else None))))))))
 
 named_again : (n : CommandName) → named (name_word n) ≡ Some n
 named_again ToConvert = refl
@@ -107,6 +108,7 @@ named_again ToMigrate = refl
 named_again ToRecord = refl
 named_again ToPlay = refl
 named_again ToGuard = refl
+named_again ToFilter = refl
 named_again ToSelftest = refl
 
 same_some : (m n : CommandName) → Some m ≡ Some n → m ≡ n
@@ -129,6 +131,7 @@ rebuilt ToMigrate tally specs = Migrating
 rebuilt ToRecord tally specs = RecordingTape (first_of specs)
 rebuilt ToPlay tally specs = PlayingFile
 rebuilt ToGuard tally specs = GuardingTape (first_of specs)
+rebuilt ToFilter tally specs = FilteringTape [] (first_of specs)
 rebuilt ToSelftest tally specs = Selftesting 0 0
 
 front_again : (s : Spec) (between : List Spec) (last : Spec) → front_of s (between ++ last ∷ []) ≡ s ∷ between
@@ -140,7 +143,7 @@ end_again s [] last = refl
 end_again s (t ∷ between) last = end_again t between last
 
 converting_again : (tally : Bool) (first : Spec) (between : List Spec) (last : Spec) →
-    converting tally (first ∷ (between ++ last ∷ [])) ≡ Converting tally first between last
+    converting {R = List ℕ} tally (first ∷ (between ++ last ∷ [])) ≡ Converting tally first between last
 converting_again tally first [] last = refl
 converting_again tally first (s ∷ between) last =
     ap (λ (specs : List Spec). Converting tally first specs (end_of s (between ++ last ∷ [])))
@@ -155,6 +158,7 @@ HasSpecs Migrating = Unit {0}
 HasSpecs (RecordingTape s) = Unit {0}
 HasSpecs PlayingFile = Unit {0}
 HasSpecs (GuardingTape s) = Unit {0}
+HasSpecs (FilteringTape file s) = ⊥
 HasSpecs (Selftesting start count) = ⊥
 
 again : (c : Command) → HasSpecs c → rebuilt (command_name c) (asks_tally c) (specs_of c) ≡ c
@@ -165,6 +169,7 @@ again Migrating h = refl
 again (RecordingTape s) h = refl
 again PlayingFile h = refl
 again (GuardingTape s) h = refl
+again (FilteringTape file s) h = absurd h
 again (Selftesting start count) h = absurd h
 
 options_are : (c : Command) → HasSpecs c → options_of c ≡ options (asks_tally c)
@@ -174,6 +179,7 @@ options_are Migrating h = refl
 options_are (RecordingTape s) h = refl
 options_are PlayingFile h = refl
 options_are (GuardingTape s) h = refl
+options_are (FilteringTape file s) h = absurd h
 options_are (Selftesting start count) h = absurd h
 
 -- the same words have the same name
@@ -194,24 +200,28 @@ one_of_specs words c d h k m n =
     ∙ (ap (λ (t : Bool). rebuilt (command_name d) t (specs_of c)) behind.0
     ∙ (ap (λ (specs : List Spec). rebuilt (command_name d) (asks_tally d) specs) behind.1 ∙ again d k)))
 
+-- the names of these commands
+abbrev names_specs : CommandName → Bool
+names_specs ToFilter = false
+names_specs ToSelftest = false
+names_specs _ = true
+
+specs_named : (c : Command) → HasSpecs c → names_specs (command_name c) ≡ true
+specs_named (Converting tally first between last) h = refl
+specs_named (Listing true s) h = refl
+specs_named (Listing false s) h = refl
+specs_named Migrating h = refl
+specs_named (RecordingTape s) h = refl
+specs_named PlayingFile h = refl
+specs_named (GuardingTape s) h = refl
+specs_named (FilteringTape file s) h = absurd h
+specs_named (Selftesting start count) h = absurd h
+
 -- a self-test
 
-not_selftest : (c : Command) → HasSpecs c → command_name c ≡ ToSelftest → ⊥
-not_selftest (Converting tally first between last) h e = cc
-not_selftest (Listing true s) h e = cc
-not_selftest (Listing false s) h e = cc
-not_selftest Migrating h e = cc
-not_selftest (RecordingTape s) h e = cc
-not_selftest PlayingFile h e = cc
-not_selftest (GuardingTape s) h e = cc
-not_selftest (Selftesting start count) h e = h
-
-no_selftest : (words : List (List ℕ)) (c : Command) (start count : ℕ) → HasSpecs c → Means words c →
-    Means words (Selftesting start count) → ⊥
-no_selftest words c start count h m n = not_selftest c h (names_agree words c (Selftesting start count) m n)
-
 same_selftest : (words : List (List ℕ)) (start count other others : ℕ) → Means words (Selftesting start count) →
-    Means words (Selftesting other others) → Selftesting start count ≡ Selftesting other others
+    Means words (Selftesting other others) →
+    ◌≡◌ {A = Command} (Selftesting start count) (Selftesting other others)
 same_selftest words start count other others m n =
     let behind = tails _ _ _ _ (sym m.words_are ∙ n.words_are) in
     let starts : start ≡ other = decimal_injective start other (omega (arith, (m.built).0)) (omega (arith, (n.built).0))
@@ -221,31 +231,76 @@ same_selftest words start count other others m n =
     (heads _ _ _ _ (tails _ _ _ _ behind)) in
     ap (λ (n : ℕ). Selftesting n count) starts ∙ ap (λ (n : ℕ). Selftesting other n) counts
 
--- a command has specs, or is a self-test
+-- a filter
+
+same_filter : (words : List (List ℕ)) (file other : List ℕ) (s t : Spec) → Means words (FilteringTape file s) →
+    Means words (FilteringTape other t) → FilteringTape file s ≡ FilteringTape other t
+same_filter words file other s t m n =
+    let behind = tails _ _ _ _ (sym m.words_are ∙ n.words_are) in
+    let left = tails file other m.arguments n.arguments behind in
+    ap (λ (x : List ℕ). FilteringTape x s) (heads file other m.arguments n.arguments behind)
+    ∙ ap (λ (specs : List Spec). FilteringTape other (first_of specs))
+    (same_specs n.arguments (s ∷ []) (t ∷ [])
+    (subst (λ (ws : List (List ℕ)). AreWordsOf ws (s ∷ [])) left m.are_specs) n.are_specs)
+
+-- a command has specs, or is a filter or a self-test
+
+abbrev IsFilter : Command → Type 0
+IsFilter c = (file : List ℕ) × (s : Spec) × (c ≡ FilteringTape file s)
+
 abbrev IsSelftest : Command → Type 0
 IsSelftest c = (start : ℕ) × (count : ℕ) × (c ≡ Selftesting start count)
 
-form : (c : Command) → HasSpecs c ⊎ IsSelftest c
+abbrev IsOther : Command → Type 0
+IsOther c = IsFilter c ⊎ IsSelftest c
+
+form : (c : Command) → HasSpecs c ⊎ IsOther c
 form (Converting tally first between last) = inl tt
 form (Listing traced s) = inl tt
 form Migrating = inl tt
 form (RecordingTape s) = inl tt
 form PlayingFile = inl tt
 form (GuardingTape s) = inl tt
-form (Selftesting start count) = inr (start, count, refl)
+form (FilteringTape file s) = inr (inl (file, s, refl))
+form (Selftesting start count) = inr (inr (start, count, refl))
+
+other_named : (c : Command) → IsOther c → names_specs (command_name c) ≡ false
+other_named c (inl f) = ap (λ (x : Command). names_specs (command_name x)) f.2
+other_named c (inr t) = ap (λ (x : Command). names_specs (command_name x)) t.2
+
+false-true : false ≡ true → ⊥
+false-true e = cc
+
+not_other : (words : List (List ℕ)) (c d : Command) → HasSpecs c → IsOther d → Means words c → Means words d → ⊥
+not_other words c d h k m n =
+    false-true (sym (other_named d k) ∙ (sym (ap names_specs (names_agree words c d m n)) ∙ specs_named c h))
+
+not_both : (words : List (List ℕ)) (file : List ℕ) (s : Spec) (start count : ℕ) →
+    Means words (FilteringTape file s) → Means words (Selftesting start count) → ⊥
+not_both words file s start count m n =
+    (let e = names_agree words (FilteringTape file s) (Selftesting start count) m n in differ e)
+  where
+    differ : ToFilter ≡ ToSelftest → ⊥
+    differ e = cc
+
+one_other : (words : List (List ℕ)) (c d : Command) → IsOther c → IsOther d → Means words c → Means words d → c ≡ d
+one_other words c d (inl f) (inl g) m n =
+    f.2 ∙ (same_filter words f.0 g.0 f.1 g.1 (subst (Means words) f.2 m) (subst (Means words) g.2 n) ∙ sym g.2)
+one_other words c d (inl f) (inr t) m n =
+    absurd (not_both words f.0 f.1 t.0 t.1 (subst (Means words) f.2 m) (subst (Means words) t.2 n))
+one_other words c d (inr t) (inl f) m n =
+    absurd (not_both words f.0 f.1 t.0 t.1 (subst (Means words) f.2 n) (subst (Means words) t.2 m))
+one_other words c d (inr t) (inr u) m n =
+    t.2 ∙ (same_selftest words t.0 t.1 u.0 u.1 (subst (Means words) t.2 m) (subst (Means words) u.2 n) ∙ sym u.2)
 
 pub one_command : (words : List (List ℕ)) (c d : Command) → Means words c → Means words d → c ≡ d
 one_command words c d m n = by_form (form c) (form d)
   where
-    by_form : (HasSpecs c ⊎ IsSelftest c) → (HasSpecs d ⊎ IsSelftest d) → c ≡ d
+    by_form : (HasSpecs c ⊎ IsOther c) → (HasSpecs d ⊎ IsOther d) → c ≡ d
     by_form (inl h) (inl k) = one_of_specs words c d h k m n
-    by_form (inl h) (inr k) =
-        absurd (no_selftest words c k.0 k.1 h m (subst (λ (x : Command). Means words x) k.2 n))
-    by_form (inr h) (inl k) =
-        absurd (no_selftest words d h.0 h.1 k n (subst (λ (x : Command). Means words x) h.2 m))
-    by_form (inr h) (inr k) =
-        h.2 ∙ (same_selftest words h.0 h.1 k.0 k.1 (subst (λ (x : Command). Means words x) h.2 m)
-        (subst (λ (x : Command). Means words x) k.2 n) ∙ sym k.2)
+    by_form (inl h) (inr k) = absurd (not_other words c d h k m n)
+    by_form (inr h) (inl k) = absurd (not_other words d c k h n m)
+    by_form (inr h) (inr k) = one_other words c d h k m n
 
 -- the specs of a command that was read, by their parts
 pub specs_again : (s : Spec) (specs : List Spec) → s ∷ specs ≡ front_of s specs ++ end_of s specs ∷ []

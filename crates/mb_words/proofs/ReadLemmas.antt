@@ -6,9 +6,9 @@ use Rattle.std.proofs.lemmas.List.{length-drop, append-nil}
 use Rattle.mb_carrier.specs.Word.{IsWordOf}
 use Rattle.mb_carrier.specs.declared.spec.Spec.{Spec}
 use Rattle.mb_words.specs.Command.{Command, Converting, Listing, Migrating, RecordingTape, PlayingFile, GuardingTape}
-use Rattle.mb_words.specs.Command.{Selftesting, CommandName, ToConvert, ToTrace, ToCheck, ToMigrate, ToRecord, ToPlay}
-use Rattle.mb_words.specs.Command.{ToGuard, ToSelftest, Means, AreWordsOf, IsAlone, IsBuilt, name_word, listing_name}
-use Rattle.mb_words.specs.Command.{command_name, name_of, options_of, specs_of}
+use Rattle.mb_words.specs.Command.{FilteringTape, Selftesting, CommandName, ToConvert, ToTrace, ToCheck, ToMigrate}
+use Rattle.mb_words.specs.Command.{ToRecord, ToPlay, ToGuard, ToFilter, ToSelftest, Means, AreWordsOf, IsAlone, IsBuilt}
+use Rattle.mb_words.specs.Command.{name_word, listing_name, command_name, name_of, options_of, specs_of}
 use Rattle.mb_words.specs.Meaning.{converting, place_of_specs}
 use Rattle.mb_words.proofs.CommandLemmas.{as_many, no_tally, same_name, specs_again, front_length}
 
@@ -84,16 +84,18 @@ no_name words w c e none m = none (command_name c) (first_word words w c m e)
 
 pub no_name-by : (w : List ℕ) →
     (w ≡ codes "convert" → ⊥) → (w ≡ codes "trace" → ⊥) → (w ≡ codes "check" → ⊥) → (w ≡ codes "migrate" → ⊥) →
-    (w ≡ codes "record" → ⊥) → (w ≡ codes "play" → ⊥) → (w ≡ codes "guard" → ⊥) → (w ≡ codes "selftest" → ⊥) →
+    (w ≡ codes "record" → ⊥) → (w ≡ codes "play" → ⊥) → (w ≡ codes "guard" → ⊥) → (w ≡ codes "filter" → ⊥) →
+    (w ≡ codes "selftest" → ⊥) →
     (n : CommandName) → w ≡ name_word n → ⊥
-no_name-by w convert trace check migrate record_tape play guard selftest ToConvert = convert
-no_name-by w convert trace check migrate record_tape play guard selftest ToTrace = trace
-no_name-by w convert trace check migrate record_tape play guard selftest ToCheck = check
-no_name-by w convert trace check migrate record_tape play guard selftest ToMigrate = migrate
-no_name-by w convert trace check migrate record_tape play guard selftest ToRecord = record_tape
-no_name-by w convert trace check migrate record_tape play guard selftest ToPlay = play
-no_name-by w convert trace check migrate record_tape play guard selftest ToGuard = guard
-no_name-by w convert trace check migrate record_tape play guard selftest ToSelftest = selftest
+no_name-by w convert trace check migrate record_tape play guard filter selftest ToConvert = convert
+no_name-by w convert trace check migrate record_tape play guard filter selftest ToTrace = trace
+no_name-by w convert trace check migrate record_tape play guard filter selftest ToCheck = check
+no_name-by w convert trace check migrate record_tape play guard filter selftest ToMigrate = migrate
+no_name-by w convert trace check migrate record_tape play guard filter selftest ToRecord = record_tape
+no_name-by w convert trace check migrate record_tape play guard filter selftest ToPlay = play
+no_name-by w convert trace check migrate record_tape play guard filter selftest ToGuard = guard
+no_name-by w convert trace check migrate record_tape play guard filter selftest ToFilter = filter
+no_name-by w convert trace check migrate record_tape play guard filter selftest ToSelftest = selftest
 
 -- a name and specs
 
@@ -114,22 +116,24 @@ plain-only words c none m =
     subst (λ (xs : List (List ℕ)). AreWordsOf xs (specs_of c))
     (sym (ap (drop 1) m.words_are ∙ ap (λ (xs : List (List ℕ)). xs ++ m.arguments) none)) m.are_specs
 
-pub one_word : (words : List (List ℕ)) (w : List ℕ) (s : Spec) → length words ≡ 2 → slice_get words 1 ≡ Some w →
-    IsWordOf w s → AreWordsOf (drop 1 words) (s ∷ [])
-one_word words w s two word is =
+pub one_word : (words : List (List ℕ)) (at : ℕ) (w : List ℕ) (s : Spec) → length words ≡ at + 1 →
+    slice_get words at ≡ Some w → IsWordOf w s → AreWordsOf (drop at words) (s ∷ [])
+one_word words at w s last word is =
     subst (λ (xs : List (List ℕ)). AreWordsOf xs (s ∷ []))
-    (sym (drop-at words 1 w word
-    ∙ ap (λ (xs : List (List ℕ)). w ∷ xs) (none_left (drop 2 words) (omega (arith, two, length-drop 2 words)))))
+    (sym (drop-next words at w word
+    ∙ ap (λ (xs : List (List ℕ)). w ∷ xs)
+    (none_left (drop (at + 1) words) (omega (arith, last, length-drop (at + 1) words)))))
     (is, tt)
 
-pub word_count : (words : List (List ℕ)) (s : Spec) → AreWordsOf (drop 1 words) (s ∷ []) → length words ≡ 2
-word_count words s are =
-    let one = as_many (drop 1 words) (s ∷ []) are in omega (arith, one, length-drop 1 words)
+pub word_count : (words : List (List ℕ)) (at : ℕ) (s : Spec) → AreWordsOf (drop at words) (s ∷ []) →
+    length words ≡ at + 1
+word_count words at s are =
+    let one = as_many (drop at words) (s ∷ []) are in omega (arith, one, length-drop at words)
 
-pub word-is : (words : List (List ℕ)) (w : List ℕ) (s : Spec) → slice_get words 1 ≡ Some w →
-    AreWordsOf (drop 1 words) (s ∷ []) → IsWordOf w s
-word-is words w s e are =
-    (subst (λ (xs : List (List ℕ)). AreWordsOf xs (s ∷ [])) (drop-at words 1 w e) are).0
+pub word-is : (words : List (List ℕ)) (at : ℕ) (w : List ℕ) (s : Spec) → slice_get words at ≡ Some w →
+    AreWordsOf (drop at words) (s ∷ []) → IsWordOf w s
+word-is words at w s e are =
+    (subst (λ (xs : List (List ℕ)). AreWordsOf xs (s ∷ [])) (drop-at words at w e) are).0
 
 -- a command that is its name alone
 
@@ -150,6 +154,7 @@ is_alone_name ToMigrate = true
 is_alone_name ToRecord = false
 is_alone_name ToPlay = true
 is_alone_name ToGuard = false
+is_alone_name ToFilter = false
 is_alone_name ToSelftest = false
 
 alone-name : (c : Command) → IsAlone c → is_alone_name (command_name c) ≡ true
@@ -159,6 +164,7 @@ alone-name Migrating a = refl
 alone-name (RecordingTape s) a = (let e = a.no_specs in cc)
 alone-name PlayingFile a = refl
 alone-name (GuardingTape s) a = (let e = a.no_specs in cc)
+alone-name (FilteringTape file s) a = (let e = a.no_specs in cc)
 alone-name (Selftesting start count) a = (let e = a.no_options in cc)
 
 alone-length : (words : List (List ℕ)) (c : Command) → is_alone_name (command_name c) ≡ true → Means words c →
@@ -172,6 +178,7 @@ alone-length words (RecordingTape s) e m = cc
 alone-length words PlayingFile e m =
     let none = as_many m.arguments [] m.are_specs in omega (arith, ap length m.words_are, none)
 alone-length words (GuardingTape s) e m = cc
+alone-length words (FilteringTape file s) e m = cc
 alone-length words (Selftesting start count) e m = cc
 
 pub only_alone : (words : List (List ℕ)) (c d : Command) → slice_get words 0 ≡ Some (name_of d) → IsAlone d →
@@ -188,6 +195,7 @@ has_lone_spec ToMigrate = false
 has_lone_spec ToRecord = true
 has_lone_spec ToPlay = false
 has_lone_spec ToGuard = true
+has_lone_spec ToFilter = false
 has_lone_spec ToSelftest = false
 
 lone-spec : (words : List (List ℕ)) (c : Command) → has_lone_spec (command_name c) ≡ true → Means words c →
@@ -198,6 +206,7 @@ lone-spec words Migrating e m = cc
 lone-spec words (RecordingTape s) e m = (s, plain-only words (RecordingTape s) refl m)
 lone-spec words PlayingFile e m = cc
 lone-spec words (GuardingTape s) e m = (s, plain-only words (GuardingTape s) refl m)
+lone-spec words (FilteringTape file s) e m = cc
 lone-spec words (Selftesting start count) e m = cc
 
 pub only_lone_spec : (words : List (List ℕ)) (c : Command) (n : CommandName) → has_lone_spec n ≡ true →
@@ -207,6 +216,35 @@ only_lone_spec words c n lone name m = lone-spec words c (ap has_lone_spec (name
 pub listing-lone : (traced : Bool) → has_lone_spec (listing_name traced) ≡ true
 listing-lone true = refl
 listing-lone false = refl
+
+-- a filter
+
+pub filter-means : (words : List (List ℕ)) (file w : List ℕ) (s : Spec) → length words ≡ 3 →
+    slice_get words 0 ≡ Some (codes "filter") → slice_get words 1 ≡ Some file → slice_get words 2 ≡ Some w →
+    IsWordOf w s → Means words (FilteringTape file s)
+filter-means words file w s three name first second is =
+    record {
+      arguments = drop 2 words;
+      words_are = begins_twice words (codes "filter") file name first;
+      are_specs = one_word words 2 w s three second is;
+      built = tt;
+    }
+
+pub only_filter : (words : List (List ℕ)) (c : Command) → slice_get words 0 ≡ Some (codes "filter") →
+    Means words c → (s : Spec) × AreWordsOf (drop 2 words) (s ∷ [])
+only_filter words c e m = by_name c (name-at words ToFilter c e m) m
+  where
+    by_name : (d : Command) → command_name d ≡ ToFilter → Means words d → (s : Spec) × AreWordsOf (drop 2 words) (s ∷ [])
+    by_name (FilteringTape file s) same n =
+        (s, subst (λ (xs : List (List ℕ)). AreWordsOf xs (s ∷ [])) (sym (ap (drop 2) n.words_are)) n.are_specs)
+    by_name (Selftesting start count) same n = cc
+    by_name (Converting tally first between last) same n = cc
+    by_name (Listing true s) same n = cc
+    by_name (Listing false s) same n = cc
+    by_name Migrating same n = cc
+    by_name (RecordingTape s) same n = cc
+    by_name PlayingFile same n = cc
+    by_name (GuardingTape s) same n = cc
 
 -- a self-test
 
@@ -268,6 +306,7 @@ only_selftest words c e m = by_name c (name-at words ToSelftest c e m) m
     by_name (RecordingTape s) same n = cc
     by_name PlayingFile same n = cc
     by_name (GuardingTape s) same n = cc
+    by_name (FilteringTape file s) same n = cc
 
 -- a conversion
 
@@ -341,6 +380,7 @@ only_conversion words tally c e asked unasked m = by_name c (name-at words ToCon
     by_name (RecordingTape s) same n = cc
     by_name PlayingFile same n = cc
     by_name (GuardingTape s) same n = cc
+    by_name (FilteringTape file s) same n = cc
     by_name (Selftesting start count) same n = cc
 
 pub none_some : {A : Type 0} (r : Option A) (x : A) → r ≡ None → r ≡ Some x → ⊥

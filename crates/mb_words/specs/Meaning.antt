@@ -11,7 +11,7 @@ use Rattle.mb_carrier.specs.declared.spec.Spec.TheVariants as spec
 use Rattle.mb_words.specs.Command as mean
 use Rattle.mb_words.specs.declared.command.Command.{Command}
 use Rattle.mb_words.specs.declared.command.Command.TheVariants.{Convert, Trace, Check, Migrate, RecordTape, Play, Guard}
-use Rattle.mb_words.specs.declared.command.Command.TheVariants.{Selftest}
+use Rattle.mb_words.specs.declared.command.Command.TheVariants.{Filter, Selftest}
 
 abbrev pub place_of_specs : (tally : Bool) → ℕ
 place_of_specs tally = if tally then 2 else 1
@@ -26,11 +26,11 @@ end_of s [] = s
 end_of s (t ∷ specs) = end_of t specs
 
 -- one spec alone is no conversion
-abbrev pub converting_from : (tally : Bool) (first : Spec) → List Spec → mean.Command
+abbrev pub converting_from : {R : Type 0} (tally : Bool) (first : Spec) → List Spec → mean.CommandOf R
 converting_from tally first [] = mean.Listing tally first
 converting_from tally first (s ∷ specs) = mean.Converting tally first (front_of s specs) (end_of s specs)
 
-abbrev pub converting : (tally : Bool) → List Spec → mean.Command
+abbrev pub converting : {R : Type 0} (tally : Bool) → List Spec → mean.CommandOf R
 converting tally [] = mean.Listing tally spec.Din
 converting tally (first ∷ specs) = converting_from tally first specs
 
@@ -42,6 +42,7 @@ meaning Migrate = mean.Migrating
 meaning (RecordTape s) = mean.RecordingTape s
 meaning Play = mean.PlayingFile
 meaning (Guard s) = mean.GuardingTape s
+meaning (Filter file s) = mean.FilteringTape file.now s
 meaning (Selftest start count) = mean.Selftesting start count
 
 abbrev pub IsWithin : Command → Type 0
@@ -52,4 +53,5 @@ IsWithin Migrate = Unit {0}
 IsWithin (RecordTape s) = IsSpec s
 IsWithin Play = Unit {0}
 IsWithin (Guard s) = IsSpec s
+IsWithin (Filter file s) = IsSpec s
 IsWithin (Selftest start count) = (start < 2 ^ 31) × (count ≤ 1000000)

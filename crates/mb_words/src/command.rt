@@ -8,7 +8,7 @@ pub type Specs = ArrayVec<Spec, 10>;
 
 /// What is to be done.
 #[derive(Drop)]
-pub enum Command {
+pub enum Command<'a> {
     /// Read by the first spec, write by the last, by way of those between. Where a tally is asked, tell how many bytes
     /// crossed each.
     Convert { tally: bool, specs: Specs },
@@ -24,6 +24,8 @@ pub enum Command {
     Play,
     /// Write a tape once more as a byte line's, and end the notes that it leaves sounding.
     Guard(Spec),
+    /// Write a tape once more as a byte line's, its messages as the rules of a file have them.
+    Filter { file: &'a str, spec: Spec },
     /// Check the program on so many units that it makes, the generator's first state given.
     Selftest { start: u32, count: u32 },
 }

@@ -28,7 +28,7 @@ pub struct Words;
 
 impl Words {
     /// The command that the words are.
-    pub fn read(words: &Args) -> Result<Command, Usage>
+    pub fn read<'a>(words: &'a Args) -> Result<Command<'a>, Usage>
         ensures found { IfOk result (λ c. Means words.now (meaning c)) }
         ensures within { IfOk result IsWithin }
         ensures only { OnErr result ((c : words_mean.Command) → Means words.now c → ⊥) }
@@ -41,7 +41,7 @@ impl Words {
 }
 
 /// The first word tells which command it may be.
-fn read_command(words: &Args) -> Option<Command>
+fn read_command(words: &Args) -> Option<Command<'_>>
     ensures found { IfSome result (λ c. Means words.now (meaning c)) }
     ensures within { IfSome result IsWithin }
     ensures only { IfNone result ((c : words_mean.Command) → Means words.now c → ⊥) }
@@ -64,6 +64,8 @@ fn read_command(words: &Args) -> Option<Command>
         read_alone(words, Command::Play)
     } else if name == "guard" {
         read_guarding(words)
+    } else if name == "filter" {
+        read_filtering(words)
     } else if name == "selftest" {
         read_selftest(words)
     } else {
@@ -72,7 +74,7 @@ fn read_command(words: &Args) -> Option<Command>
 }
 
 /// `check SPEC` or `trace SPEC`.
-fn read_listing(words: &Args, traced: bool) -> Option<Command>
+fn read_listing(words: &Args, traced: bool) -> Option<Command<'_>>
     requires { slice_get words.now 0 ≡ Some (name_word (listing_name traced)) }
     ensures found { IfSome result (λ c. Means words.now (meaning c)) }
     ensures within { IfSome result IsWithin }
@@ -82,7 +84,7 @@ fn read_listing(words: &Args, traced: bool) -> Option<Command>
     Some(listing_of(traced, spec))
 }
 
-fn listing_of(traced: bool, spec: Spec) -> Command
+fn listing_of(traced: bool, spec: Spec) -> Command<'static>
     ensures meaning { meaning result ≡ words_mean.Listing traced spec }
     ensures within { IsSpec spec → IsWithin result }
 {
@@ -94,7 +96,7 @@ fn listing_of(traced: bool, spec: Spec) -> Command
 }
 
 /// `record SPEC`.
-fn read_recording(words: &Args) -> Option<Command>
+fn read_recording(words: &Args) -> Option<Command<'_>>
     requires { slice_get words.now 0 ≡ Some (codes "record") }
     ensures found { IfSome result (λ c. Means words.now (meaning c)) }
     ensures within { IfSome result IsWithin }
@@ -105,7 +107,7 @@ fn read_recording(words: &Args) -> Option<Command>
 }
 
 /// `guard SPEC`.
-fn read_guarding(words: &Args) -> Option<Command>
+fn read_guarding(words: &Args) -> Option<Command<'_>>
     requires { slice_get words.now 0 ≡ Some (codes "guard") }
     ensures found { IfSome result (λ c. Means words.now (meaning c)) }
     ensures within { IfSome result IsWithin }
@@ -113,6 +115,23 @@ fn read_guarding(words: &Args) -> Option<Command>
 {
     let spec = read_lone_spec(words)?;
     Some(Command::Guard(spec))
+}
+
+/// `filter RULEFILE SPEC`. Any word may name a file.
+fn read_filtering(words: &Args) -> Option<Command<'_>>
+    requires { slice_get words.now 0 ≡ Some (codes "filter") }
+    ensures found { IfSome result (λ c. Means words.now (meaning c)) }
+    ensures within { IfSome result IsWithin }
+    ensures only { IfNone result ((c : words_mean.Command) → Means words.now c → ⊥) }
+{
+    if words.len() != 3 {
+        return None;
+    }
+    let spec = Spec::read(words.word(2))?;
+    Some(Command::Filter {
+        file: words.word(1),
+        spec,
+    })
 }
 
 /// The one spec behind a name.
@@ -129,7 +148,7 @@ fn read_lone_spec(words: &Args) -> Option<Spec>
 }
 
 /// A command that is its name alone.
-fn read_alone(words: &Args, command: Command) -> Option<Command>
+fn read_alone<'a>(words: &Args, command: Command<'a>) -> Option<Command<'a>>
     requires name { slice_get words.now 0 ≡ Some (name_of (meaning command)) }
     requires alone { IsAlone (meaning command) }
     requires within { IsWithin command }
@@ -145,7 +164,7 @@ fn read_alone(words: &Args, command: Command) -> Option<Command>
 }
 
 /// `convert SPEC SPEC ..` or `convert tally SPEC SPEC ..`.
-fn read_conversion(words: &Args) -> Option<Command>
+fn read_conversion(words: &Args) -> Option<Command<'_>>
     requires { slice_get words.now 0 ≡ Some (codes "convert") }
     ensures found { IfSome result (λ c. Means words.now (meaning c)) }
     ensures within { IfSome result IsWithin }
@@ -192,7 +211,7 @@ fn read_specs(words: &Args, start: usize) -> Option<Specs>
 }
 
 /// `selftest START COUNT`: 0 to 2147483647, and 0 to 1000000.
-fn read_selftest(words: &Args) -> Option<Command>
+fn read_selftest(words: &Args) -> Option<Command<'_>>
     requires { slice_get words.now 0 ≡ Some (codes "selftest") }
     ensures found { IfSome result (λ c. Means words.now (meaning c)) }
     ensures within { IfSome result IsWithin }

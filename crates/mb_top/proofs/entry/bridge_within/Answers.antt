@@ -1,7 +1,9 @@
-use Rattle.std.proofs.Common.{ℕ, List, ◌∙◌, ◌++◌, refl, sym, ap, subst, arith}
+use Rattle.std.proofs.Common.{ℕ, List, [], ◌∙◌, refl, sym, ap, subst, arith}
 use Rattle.mb_carrier.specs.Carrier.{den, notes_of, whole}
 use Rattle.mb_carrier.proofs.ConversionLemmas.{through-means, through-clean, through-whole}
-use Rattle.mb_words.specs.Command.{Converting, Listing, Migrating, PlayingFile, GuardingTape, Selftesting}
+use Rattle.mb_words.specs.Command.{Converting, Listing, Migrating, RecordingTape, PlayingFile, GuardingTape}
+use Rattle.mb_words.specs.Command.{FilteringTape, Selftesting}
+use Rattle.mb_top.specs.Task.{with_rules}
 use Rattle.mb_words.proofs.CommandLemmas.{written_specs}
 use Rattle.mb_top.specs.Output.{HasNotes, HasNoNotes}
 use Rattle.mb_top.specs.Answer.{Says, code_of, read_all}
@@ -11,9 +13,13 @@ use Rattle.mb_top.proofs.AnswerLemmas.{answered, went_through, ends-at_status, c
 use Rattle.mb_top.proofs.AnswerLemmas.{is_canonical, usage_only, is_meant, read_faults, write_fault, no_write_fault}
 use Rattle.mb_top.proofs.DistanceLemmas.{keeps_distances}
 use Rattle.mb_top.proofs.AnswerLemmas.{wants_memory, noted_alone, no_fault, tape_alone, file_alone, one-reads}
-use Rattle.mb_top.proofs.AnswerLemmas.{selftest-ends}
-use Rattle.mb_top.proofs.CarriedLemmas.{carried, carried-completes, carried-part, file-told, tape_fault-told, whole-tape}
-use Rattle.mb_top.proofs.CarriedLemmas.{notes-ended, notes-silent, shows-none, writes-all}
+use Rattle.mb_top.proofs.AnswerLemmas.{rules_alone, selftest-ends, tallied}
+use Rattle.mb_top.proofs.TaskLemmas.{ends-plain, memory-task, no_notes-task, notes-task, plain-reader, plain-rewrites}
+use Rattle.mb_top.proofs.TaskLemmas.{reader-task, rewrites-task, tape-task}
+use Rattle.mb_top.proofs.FilteredLemmas.{filter-did, filtered-meaning, filters-completes, none-filtered, rules-judged}
+use Rattle.mb_top.proofs.CarriedLemmas.{carried, carried-completes, carried-part, carried-task, cut-carried, file-told}
+use Rattle.mb_top.proofs.CarriedLemmas.{filter-writes-all, not-four, notes-ended, notes-silent, part-task, shows-none}
+use Rattle.mb_top.proofs.CarriedLemmas.{tape-told, tape_fault-told, whole-tape, writes-all}
 use Rattle.mb_top.proofs.PlayLemmas.{whole-sound_file}
 use Rattle.mb_top.proofs.RecordedLemmas.{Recorded, file-means, recorded-by, records-completes}
 use Rattle.mb_stream.specs.Denotation.{denotation}
@@ -37,32 +43,32 @@ returns-clause-contents g c = λ tells.
 
 pub returns-clause-headline : goal.returns-clause-headline
 returns-clause-headline g c = λ tally first between last tells m all.
-    let t = went_through _ _ _ _ _ _ _ (Converting tally first between last) all m
+    let t = went_through _ _ _ _ _ _ _ (Converting tally first between last) refl all m
     (returns-clause-contents g c tells) in
     let are = written_specs _ tally first between last m in
     ap (den last) t.output_is ∙ through-means first between last _ are.0 are.1
 
 pub returns-clause-exact : goal.returns-clause-exact
 returns-clause-exact g c = λ tally first between last tells m all.
-    (went_through _ _ _ _ _ _ _ (Converting tally first between last) all m
+    (went_through _ _ _ _ _ _ _ (Converting tally first between last) refl all m
     (returns-clause-contents g c tells)).output_is
 
 pub returns-clause-clean : goal.returns-clause-clean
 returns-clause-clean g c = λ tally first between last tells m all.
-    let t = went_through _ _ _ _ _ _ _ (Converting tally first between last) all m
+    let t = went_through _ _ _ _ _ _ _ (Converting tally first between last) refl all m
     (returns-clause-contents g c tells) in
     ap (notes_of last) t.output_is
     ∙ through-clean first between last _ (written_specs _ tally first between last m).1
 
 pub returns-clause-whole : goal.returns-clause-whole
 returns-clause-whole g c = λ tally first between last tells m all.
-    let t = went_through _ _ _ _ _ _ _ (Converting tally first between last) all m
+    let t = went_through _ _ _ _ _ _ _ (Converting tally first between last) refl all m
     (returns-clause-contents g c tells) in
     ap (whole last) t.output_is ∙ through-whole first between last _
 
 pub returns-clause-canonical : goal.returns-clause-canonical
 returns-clause-canonical g c = λ tally first between last tells m all byte_line.
-    let t = went_through _ _ _ _ _ _ _ (Converting tally first between last) all m
+    let t = went_through _ _ _ _ _ _ _ (Converting tally first between last) refl all m
     (returns-clause-contents g c tells) in
     is_canonical first between last _ _ byte_line t.output_is
 
@@ -73,7 +79,7 @@ returns-clause-moments g c = λ tally first between last tells m all.
 
 pub returns-clause-so_far : goal.returns-clause-so_far
 returns-clause-so_far g c = λ tally first between last tells m part.
-    live_written _ _ _ _ _ _ _ (Converting tally first between last) part m (returns-clause-contents g c tells)
+    live_written _ _ _ _ _ _ _ (Converting tally first between last) refl part m (returns-clause-contents g c tells)
 
 pub returns-clause-lacks : goal.returns-clause-lacks
 returns-clause-lacks g c = λ tally first between last tells m part.
@@ -103,27 +109,30 @@ returns-clause-front g c = λ tally first between last tells m part.
 
 pub returns-clause-tally : goal.returns-clause-tally
 returns-clause-tally g c = λ command tells m all.
-    let a = returns-clause-contents g c tells in
-    let t = went_through _ _ _ _ _ _ _ command all m a in
-    (a.said, a.on_error ∙ ap (λ xs. xs ++ a.said) t.tally_is)
+    tallied _ _ _ _ _ _ _ command all m (returns-clause-contents g c tells)
 
 pub returns-clause-listed : goal.returns-clause-listed
 returns-clause-listed g c = λ traced s tells m all.
-    (went_through _ _ _ _ _ _ _ (Listing traced s) all m (returns-clause-contents g c tells)).output_is
+    (went_through _ _ _ _ _ _ _ (Listing traced s) refl all m (returns-clause-contents g c tells)).output_is
 
 pub returns-clause-no_note : goal.returns-clause-no_note
 returns-clause-no_note g c = λ command s tells m reads zero.
-    let d = ends-at_status _ _ _ _ _ _ _ command Done refl zero m (returns-clause-contents g c tells) in
-    subst (HasNoNotes command) (sym ((d.0).all (one-reads command s reads))) d.2
+    let plain = plain-reader command s reads in
+    let d = ends-at_status _ _ _ _ _ _ _ command Done plain refl zero m (returns-clause-contents g c tells) in
+    subst (HasNoNotes command) (sym ((d.0).all (one-reads _ s (reader-task command s reads))))
+    (no_notes-task command _ d.2)
 
 pub returns-clause-a_note : goal.returns-clause-a_note
 returns-clause-a_note g c = λ command s tells m reads one.
-    let d = ends-at_status _ _ _ _ _ _ _ command Noted refl one m (returns-clause-contents g c tells) in
-    subst (HasNotes command) (sym ((d.0).all (one-reads command s reads))) d.2
+    let plain = plain-reader command s reads in
+    let d = ends-at_status _ _ _ _ _ _ _ command Noted plain refl one m (returns-clause-contents g c tells) in
+    subst (HasNotes command) (sym ((d.0).all (one-reads _ s (reader-task command s reads))))
+    (notes-task command _ d.2)
 
 pub returns-clause-all_read : goal.returns-clause-all_read
 returns-clause-all_read g c = λ command s tells m reads all. sym
-    ((went_through _ _ _ _ _ _ _ command all m (returns-clause-contents g c tells)).all (one-reads command s reads))
+    ((went_through _ _ _ _ _ _ _ command (plain-reader command s reads) all m
+    (returns-clause-contents g c tells)).all (one-reads _ s (reader-task command s reads)))
 
 pub returns-clause-cut : goal.returns-clause-cut
 returns-clause-cut g c = λ command s tells m reads all. cut-at_end _ _ _ _ _ _ _ command s reads all m
@@ -138,13 +147,17 @@ returns-clause-meant g c = is_meant _ c.run-status.result _ c.code.ensures c.run
 pub returns-clause-reads_all : goal.returns-clause-reads_all
 returns-clause-reads_all g c = λ command s tells m reads unhindered short unwanted.
     ap read_all c.code.ensures
-    ∙ reads_all _ _ _ _ _ _ c.run-status.result command m c.run-status.ensures.may
+    ∙ reads_all _ _ _ _ _ _ c.run-status.result command (with_rules [] command) m c.run-status.ensures.may
     (λ e. (read_faults _ _ _ _ _ _ c.run-status.result _ c.code.ensures c.say.ensures.reads c.run-status.ensures.faults).0
     (c.code.ensures ∙ ap code_of e))
     (λ e. write_fault _ _ _ _ _ _ c.run-status.result _ c.code.ensures c.say.ensures.writes c.run-status.ensures.faults
     (c.code.ensures ∙ ap code_of e))
-    unhindered.reading unhindered.writing short (λ input f front. no_fault command s input f reads unwanted)
+    unhindered.reading unhindered.writing short
+    (λ input f front. no_fault (with_rules [] command) s input f (reader-task command s reads)
+    (memory-task [] command ∙ unwanted))
     (c.run-status.ensures.ran tells)
+    (let ran = c.run-status.ensures.ran tells in
+    ends-plain command _ (g.D.Desk.contents c.args.desk.now) ran.start ran.input ran.output ran.tally _ (plain-reader command s reads) (ran.ends command m))
 
 pub returns-clause-complete : goal.returns-clause-complete
 returns-clause-complete g c = λ tally first between last tells m unhindered short is_whole.
@@ -184,7 +197,7 @@ returns-clause-given g c = λ tells. (returns-clause-contents g c tells).given
 
 pub returns-clause-migrated : goal.returns-clause-migrated
 returns-clause-migrated g c = λ tells m other.
-    (carried _ _ _ _ _ _ _ Migrating (writes-all Migrating refl) m other (returns-clause-contents g c tells)).written_is
+    (carried _ _ _ _ _ _ _ Migrating refl m other (returns-clause-contents g c tells)).written_is
 
 pub returns-clause-same_records : goal.returns-clause-same_records
 returns-clause-same_records g c = λ tells m other bytes.
@@ -192,24 +205,24 @@ returns-clause-same_records g c = λ tells m other bytes.
 
 pub returns-clause-played : goal.returns-clause-played
 returns-clause-played g c = λ tells m other.
-    (carried _ _ _ _ _ _ _ PlayingFile (writes-all PlayingFile refl) m other
+    (carried _ _ _ _ _ _ _ PlayingFile refl m other
     (returns-clause-contents g c tells)).written_is
 
 pub returns-clause-guarded : goal.returns-clause-guarded
 returns-clause-guarded g c = λ s tells m other.
-    (carried _ _ _ _ _ _ _ (GuardingTape s) (writes-all (GuardingTape s) refl) m other
+    (carried _ _ _ _ _ _ _ (GuardingTape s) refl m other
     (returns-clause-contents g c tells)).written_is
 
 pub returns-clause-notes_ended : goal.returns-clause-notes_ended
 returns-clause-notes_ended g c = λ s tells m other early.
     notes-ended s _ _ _ _
-    (carried _ _ _ _ _ _ _ (GuardingTape s) (writes-all (GuardingTape s) refl) m other
+    (carried _ _ _ _ _ _ _ (GuardingTape s) refl m other
     (returns-clause-contents g c tells)) early
 
 pub returns-clause-silent : goal.returns-clause-silent
 returns-clause-silent g c = λ s tells m other early.
     notes-silent s _ _ _ _
-    (carried _ _ _ _ _ _ _ (GuardingTape s) (writes-all (GuardingTape s) refl) m other
+    (carried _ _ _ _ _ _ _ (GuardingTape s) refl m other
     (returns-clause-contents g c tells)) early
 
 pub returns-clause-recorded : goal.returns-clause-recorded
@@ -262,79 +275,157 @@ returns-clause-records g c = λ s tells m unhindered short is_whole.
     unhindered.reading unhindered.writing short is_whole
     (λ input told front. tape.whole-sound_tape _ input told
     (whole-tape s ((g.D.Desk.contents c.args.desk.now).left 0) is_whole) front)
-    (c.run-status.ensures.ran tells))
+    (c.run-status.ensures.ran tells)
+    (let ran = c.run-status.ensures.ran tells in
+    ends-plain (RecordingTape s) _ (g.D.Desk.contents c.args.desk.now) ran.start ran.input ran.output ran.tally _ refl (ran.ends (RecordingTape s) m)))
 
 pub returns-clause-rewritten_part : goal.returns-clause-rewritten_part
 returns-clause-rewritten_part g c = λ command tells m all four.
-    carried-part _ _ _ _ _ _ _ command m four (returns-clause-contents g c tells)
+    carried-part _ _ _ _ _ _ _ command (plain-rewrites command all) m four (returns-clause-contents g c tells)
 
 pub returns-clause-bad_tape : goal.returns-clause-bad_tape
 returns-clause-bad_tape g c = λ command all reads tells m other.
-    tape_fault-told command _ _ all reads
-    (carried _ _ _ _ _ _ _ command (writes-all command all) m other (returns-clause-contents g c tells)).told
+    tape_fault-told (with_rules [] command) _ _ (rewrites-task [] command ∙ all) (tape-task [] command ∙ reads)
+    (carried _ _ _ _ _ _ _ command all m other (returns-clause-contents g c tells)).told
 
 pub returns-clause-bad_file : goal.returns-clause-bad_file
 returns-clause-bad_file g c = λ tells m other.
-    file-told _ _ (carried _ _ _ _ _ _ _ PlayingFile (writes-all PlayingFile refl) m other
+    file-told _ _ (carried _ _ _ _ _ _ _ PlayingFile refl m other
     (returns-clause-contents g c tells)).told
 
 pub returns-clause-cut_rewriting : goal.returns-clause-cut_rewriting
 returns-clause-cut_rewriting g c = λ command all tells m other.
-    (carried _ _ _ _ _ _ _ command (writes-all command all) m other (returns-clause-contents g c tells)).end
+    cut-carried command _ _ _ _ (carried _ _ _ _ _ _ _ command all m other (returns-clause-contents g c tells))
 
 pub returns-clause-bad_file_alone : goal.returns-clause-bad_file_alone
 returns-clause-bad_file_alone g c = file_alone _ c.run-status.result _ c.code.ensures c.run-status.ensures.may
 
 pub returns-clause-migrates : goal.returns-clause-migrates
 returns-clause-migrates g c = λ tells m unhindered short is_whole.
-    carried-completes _ _ _ _ _ _ _ Migrating (writes-all Migrating refl) m
+    carried-completes _ _ _ _ _ _ _ Migrating refl m
     (ap read_all c.code.ensures
-    ∙ reads_all _ _ _ _ _ _ c.run-status.result Migrating m c.run-status.ensures.may
+    ∙ reads_all _ _ _ _ _ _ c.run-status.result Migrating Migrating m c.run-status.ensures.may
     (λ e. (read_faults _ _ _ _ _ _ c.run-status.result _ c.code.ensures c.say.ensures.reads c.run-status.ensures.faults).0
     (c.code.ensures ∙ ap code_of e))
     (λ e. write_fault _ _ _ _ _ _ c.run-status.result _ c.code.ensures c.say.ensures.writes c.run-status.ensures.faults
     (c.code.ensures ∙ ap code_of e))
     unhindered.reading unhindered.writing short (λ input f front. shows-none Migrating input (writes-all Migrating refl)
     (λ g. tape.whole-sound_tape _ input g is_whole front) f)
-    (c.run-status.ensures.ran tells))
+    (c.run-status.ensures.ran tells)
+    (let ran = c.run-status.ensures.ran tells in
+    ends-plain Migrating _ (g.D.Desk.contents c.args.desk.now) ran.start ran.input ran.output ran.tally _ refl (ran.ends Migrating m)))
     is_whole (returns-clause-contents g c tells)
 
 pub returns-clause-plays : goal.returns-clause-plays
 returns-clause-plays g c = λ tells m unhindered short ended sound.
-    carried-completes _ _ _ _ _ _ _ PlayingFile (writes-all PlayingFile refl) m
+    carried-completes _ _ _ _ _ _ _ PlayingFile refl m
     (ap read_all c.code.ensures
-    ∙ reads_all _ _ _ _ _ _ c.run-status.result PlayingFile m c.run-status.ensures.may
+    ∙ reads_all _ _ _ _ _ _ c.run-status.result PlayingFile PlayingFile m c.run-status.ensures.may
     (λ e. (read_faults _ _ _ _ _ _ c.run-status.result _ c.code.ensures c.say.ensures.reads c.run-status.ensures.faults).0
     (c.code.ensures ∙ ap code_of e))
     (λ e. write_fault _ _ _ _ _ _ c.run-status.result _ c.code.ensures c.say.ensures.writes c.run-status.ensures.faults
     (c.code.ensures ∙ ap code_of e))
     unhindered.reading unhindered.writing short (λ input f front. shows-none PlayingFile input (writes-all PlayingFile refl)
     (λ g. whole-sound_file _ input g sound front) f)
-    (c.run-status.ensures.ran tells))
+    (c.run-status.ensures.ran tells)
+    (let ran = c.run-status.ensures.ran tells in
+    ends-plain PlayingFile _ (g.D.Desk.contents c.args.desk.now) ran.start ran.input ran.output ran.tally _ refl (ran.ends PlayingFile m)))
     ended (returns-clause-contents g c tells)
 
 pub returns-clause-guards : goal.returns-clause-guards
 returns-clause-guards g c = λ s tells m unhindered short is_whole.
-    carried-completes _ _ _ _ _ _ _ (GuardingTape s) (writes-all (GuardingTape s) refl) m
+    carried-completes _ _ _ _ _ _ _ (GuardingTape s) refl m
     (ap read_all c.code.ensures
-    ∙ reads_all _ _ _ _ _ _ c.run-status.result (GuardingTape s) m c.run-status.ensures.may
+    ∙ reads_all _ _ _ _ _ _ c.run-status.result (GuardingTape s) (GuardingTape s) m c.run-status.ensures.may
     (λ e. (read_faults _ _ _ _ _ _ c.run-status.result _ c.code.ensures c.say.ensures.reads c.run-status.ensures.faults).0
     (c.code.ensures ∙ ap code_of e))
     (λ e. write_fault _ _ _ _ _ _ c.run-status.result _ c.code.ensures c.say.ensures.writes c.run-status.ensures.faults
     (c.code.ensures ∙ ap code_of e))
     unhindered.reading unhindered.writing short (λ input f front. shows-none (GuardingTape s) input (writes-all (GuardingTape s) refl)
     (λ told. tape.whole-sound_tape _ input told (whole-tape s ((g.D.Desk.contents c.args.desk.now).left 0) is_whole) front) f)
-    (c.run-status.ensures.ran tells))
+    (c.run-status.ensures.ran tells)
+    (let ran = c.run-status.ensures.ran tells in
+    ends-plain (GuardingTape s) _ (g.D.Desk.contents c.args.desk.now) ran.start ran.input ran.output ran.tally _ refl (ran.ends (GuardingTape s) m)))
     is_whole (returns-clause-contents g c tells)
+
+pub returns-clause-filtered : goal.returns-clause-filtered
+returns-clause-filtered g c = λ file s tells m judged silent.
+    let a = returns-clause-contents g c tells in
+    let b = filter-did _ _ _ _ _ _ _ file s m judged silent a in (
+      b.rules,
+      b.got_them,
+      λ other.
+          (carried-task _ _ _ _ _ _ _ (FilteringTape b.rules s) (filter-writes-all b.rules s) other a b.holds).written_is,
+    )
+
+pub returns-clause-filtered_part : goal.returns-clause-filtered_part
+returns-clause-filtered_part g c = λ file s tells m judged silent.
+    let a = returns-clause-contents g c tells in
+    let b = filter-did _ _ _ _ _ _ _ file s m judged silent a in
+    (b.rules, b.got_them, λ four. part-task _ _ _ _ _ _ _ (FilteringTape b.rules s) four a b.holds)
+
+pub returns-clause-filtered_means : goal.returns-clause-filtered_means
+returns-clause-filtered_means g c = λ file s tells m judged silent.
+    let a = returns-clause-contents g c tells in
+    let b = filter-did _ _ _ _ _ _ _ file s m judged silent a in (
+      b.rules,
+      b.got_them,
+      λ other early.
+          filtered-meaning b.rules s _ _ _ _
+          (carried-task _ _ _ _ _ _ _ (FilteringTape b.rules s) (filter-writes-all b.rules s) other a b.holds) early,
+    )
+
+pub returns-clause-filtered_fault : goal.returns-clause-filtered_fault
+returns-clause-filtered_fault g c = λ file s tells m judged silent.
+    let a = returns-clause-contents g c tells in
+    let b = filter-did _ _ _ _ _ _ _ file s m judged silent a in (
+      b.rules,
+      b.got_them,
+      λ other.
+          tape-told _ _
+          (carried-task _ _ _ _ _ _ _ (FilteringTape b.rules s) (filter-writes-all b.rules s) other a b.holds).told,
+    )
+
+pub returns-clause-filtered_all : goal.returns-clause-filtered_all
+returns-clause-filtered_all g c = λ file s tells m judged silent.
+    let a = returns-clause-contents g c tells in
+    let b = filter-did _ _ _ _ _ _ _ file s m judged silent a in (
+      b.rules,
+      b.got_them,
+      λ all.
+          (carried-task _ _ _ _ _ _ _ (FilteringTape b.rules s) (filter-writes-all b.rules s) (not-four _ all) a
+          b.holds).end all,
+    )
+
+pub returns-clause-bad_rules : goal.returns-clause-bad_rules
+returns-clause-bad_rules g c = λ file s tells m.
+    rules-judged _ _ _ _ _ _ _ file s m (returns-clause-contents g c tells)
+
+pub returns-clause-unfiltered : goal.returns-clause-unfiltered
+returns-clause-unfiltered g c = λ file s tells m.
+    none-filtered _ _ _ _ _ _ _ file s m (returns-clause-contents g c tells)
+
+pub returns-clause-bad_rules_alone : goal.returns-clause-bad_rules_alone
+returns-clause-bad_rules_alone g c = rules_alone _ c.run-status.result _ c.code.ensures c.run-status.ensures.may
+
+pub returns-clause-filters : goal.returns-clause-filters
+returns-clause-filters g c = λ file s tells m unhindered short is_whole.
+    filters-completes _ _ _ _ _ _ _ _ _ _ c.run-status.result file s m c.run-status.ensures.may
+    (λ e. (read_faults _ _ _ _ _ _ c.run-status.result _ c.code.ensures c.say.ensures.reads c.run-status.ensures.faults).0
+    (c.code.ensures ∙ ap code_of e))
+    (λ e. write_fault _ _ _ _ _ _ c.run-status.result _ c.code.ensures c.say.ensures.writes c.run-status.ensures.faults
+    (c.code.ensures ∙ ap code_of e))
+    unhindered.reading unhindered.writing short is_whole (c.run-status.ensures.ran tells) c.code.ensures
+    (returns-clause-contents g c tells)
 
 pub returns-clause-selftest : goal.returns-clause-selftest
 returns-clause-selftest g c = λ start count tells m zero.
-    ((ends-at_status _ _ _ _ _ _ _ (Selftesting start count) Done refl zero m
+    ((ends-at_status _ _ _ _ _ _ _ (Selftesting start count) Done refl refl zero m
     (returns-clause-contents g c tells)).0).output_is
 
 pub returns-clause-selftest_front : goal.returns-clause-selftest_front
 returns-clause-selftest_front g c = λ start count tells m four.
-    (ends-at_status _ _ _ _ _ _ _ (Selftesting start count) (Stopped Refused) refl four m
+    (ends-at_status _ _ _ _ _ _ _ (Selftesting start count) (Stopped Refused) refl refl four m
     (returns-clause-contents g c tells)).front
 
 pub returns-clause-selftest_ends : goal.returns-clause-selftest_ends

@@ -2,6 +2,8 @@ use Rattle.std.proofs.Common.{arith}
 use Rattle.mb_top.proofs.ChainLemmas.{links-count}
 use Rattle.mb_top.proofs.JobLemmas.{chain-stands, job-cut}
 use Rattle.mb_top.proofs.TapeLemmas.{job-tape_cut}
+use Rattle.mb_top.proofs.RewriteLemmas.{rewrite-cut}
+use Rattle.mb_top.specs.declared.job.Job.TheVariants as job
 use Rattle.mb_top.proofs.job.Job.is_cut.Goals as goal
 
 pub partial-requires : goal.partial-requires
@@ -15,3 +17,11 @@ returns-in-Convert c = λ bytes h. job-cut _ _ _ _ _ bytes c.in-Convert.is h c.p
 pub returns-in-Migrate : goal.returns-in-Migrate
 returns-in-Migrate c = λ bytes h. job-tape_cut _ c.in-Migrate.tape _ bytes c.in-Migrate.is h
     c.partial-in-Migrate.ensures.state
+
+pub returns-in-Guard : goal.returns-in-Guard
+returns-in-Guard c = λ bytes h.
+    rewrite-cut _ (job.Guard c.in-Guard.guarding) _ bytes c.in-Guard.is h c.partial-in-Guard.ensures.law
+
+pub returns-in-Filter : goal.returns-in-Filter
+returns-in-Filter c = λ bytes h.
+    rewrite-cut _ (job.Filter c.in-Filter.filtering) _ bytes c.in-Filter.is h c.partial-in-Filter.ensures.law

@@ -1,0 +1,16 @@
+use Rattle.std.proofs.Common.{◌≡◌, ◌-◌, length, IsTrue}
+use Rattle.mb_top.specs.RulesFile.{TextRead}
+use Rattle.mb_top.proofs.rules_file.read_text.Given as goal
+
+abbrev pub invariant-pieces : goal.invariant-pieces
+invariant-pieces g l =
+    let D = g.D.Desk in
+    record {
+      reads_same : D.read_faults l.desk ≡ D.read_faults l.initial.desk;
+      writes_same : D.write_faults l.desk ≡ D.write_faults l.initial.desk;
+      told : IsTrue D.tells →
+          TextRead l.handle (D.contents l.initial.desk) (D.contents l.desk) l.text.items;
+    }
+
+abbrev pub decreases-pieces : goal.decreases-pieces
+decreases-pieces g l = 4097 - length l.text.items
