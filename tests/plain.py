@@ -80,7 +80,7 @@ class Reading:
     """A byte stream on its way into groups."""
 
     def __init__(self):
-        self.groups, self.told, self.group, self.moment, self.fresh_end = [], [], Group(), 0, None
+        self.told, self.group, self.moment = [], Group(), 0
 
     def end_group(self, where, moment, by=None):
         self.group.ended, self.group.ended_at, self.group.ended_by = where, moment, by
@@ -101,17 +101,20 @@ class Reading:
                 # the F7 is told as the SysEx's end, and data behind it belongs to nothing
                 self.group = Group()
 
-    def finish(self, moment=None):
-        self.end_group(END, self.moment if moment is None else moment)
+    def finish(self):
+        self.end_group(END, self.moment)
         self.told.sort(key=lambda it: it[0])
         return self.told
+
+
+# Each reader gives what it tells, whether the recording is whole, and the moment of its end.
 
 
 def read_line(recording, moments):
     reading = Reading()
     for at, byte in enumerate(recording):
         reading.take(at, byte, moments[at])
-    return reading.finish(), True
+    return reading.finish(), True, reading.moment
 
 
 def suits(number, used):
@@ -142,7 +145,7 @@ def read_cable(recording, moments, cable):
             reading.told.append(((start, OF_PACKET), 0, Note(start, "reserved-cin")))
         elif len(packet) == 4 and not suits(number, used):
             reading.told.append(((start + 3, OF_PACKET), 0, Note(start, "cin-mismatch")))
-    return reading.finish(), len(recording) % 4 == 0
+    return reading.finish(), len(recording) % 4 == 0, reading.moment
 
 
 def frames(recording):
@@ -221,7 +224,7 @@ def read_ble(recording, _moments):
                 reading.take(at, byte, reading.moment)
         if len(content) == length:
             reading.end_packet(start + 1 + length)
-    return reading.finish(), whole
+    return reading.finish(), whole, reading.moment
 
 
 def read_fire(recording, moments, port):
@@ -253,7 +256,7 @@ def read_fire(recording, moments, port):
         for number in range(blocks):
             first = 8 + number * size
             read_block(reading, content[first : first + size], start + 2 + first, size, moments, (content[3] + number) % 8, port)
-    return reading.finish(), whole
+    return reading.finish(), whole, reading.moment
 
 
 def read_block(reading, block, start, size, moments, stream, port):
@@ -269,7 +272,8 @@ def read_block(reading, block, start, size, moments, stream, port):
         reading.told.append(((start + size - 1, OF_PACKET), 0, Note(start, "no-midi-quadlet")))
 
 
-# Writing. A put is a mark and its moment; what is written is bytes, each with its moment.
+# Writing. A put is a mark and its moment; what is written is bytes, each with its moment. The end is the moment of the
+# recording's end, or None where it goes on: then what waits for its packet isn't written.
 
 
 def spelled(mark):
@@ -297,7 +301,7 @@ def write_cable(puts, end, cable):
         padded = [16 * cable + number, *content, 0, 0, 0][:4]
         written.extend((byte, moment) for byte in padded)
 
-    for mark, moment in [*puts, (("abort",), end)]:
+    for mark, moment in puts if end is None else [*puts, (("abort",), end)]:
         if mark[0] == "short":
             status = mark[1][0]
             number = status >> 4 if status < 0xF0 else {0xF1: 2, 0xF3: 2, 0xF2: 3, 0xF6: 5}[status]
@@ -378,7 +382,7 @@ def write_ble(puts, end, size):
             written += packet.frame(moment)
             packet = BlePacket()
         packet.add(mark, moment)
-    return written + (packet.frame(end) if packet.content else [])
+    return written + (packet.frame(end) if packet.content and end is not None else [])
 
 
 # Specs and commands.
@@ -402,44 +406,27 @@ def puts_of(told):
     return [(thing, moment) for _, moment, thing in told if not isinstance(thing, Note)]
 
 
-def end_of(told, moments, recording, word):
-    """The moment of a recording's end."""
-    if word.startswith("ble"):
-        reading = Packets()
-        return last_stamp(recording)
-    return moments[-1] if moments else 0
-
-
-def last_stamp(recording):
-    reading, moment = Packets(), 0
-    for _, _, content in frames(recording)[0]:
-        if not content or content[0] < 0x80:
-            continue
-        upper, last, is_stamp = content[0] & 63, None, True
-        for byte in content[1:]:
-            if byte < 0x80:
-                is_stamp = True
-            elif is_stamp:
-                upper += last is not None and byte & 127 < last
-                last, is_stamp = byte & 127, False
-                moment = reading.stamp(upper, last)
-            else:
-                is_stamp = True
-    return moment
+def through(specs, recording, goes_on=False):
+    """What crosses each spec, and whether the recording is whole; where it goes on, what is known and written so far."""
+    moments, crossed, is_whole = [0] * len(recording), [recording], True
+    for number, (one, other) in enumerate(zip(specs, specs[1:])):
+        reader, writer = spec(one)[0], spec(other)[1]
+        told, whole, end = reader(recording, moments)
+        is_whole = is_whole and (number > 0 or whole)
+        if goes_on:
+            told, end = [it for it in told if it[0] < END], None
+        written = writer(puts_of(told), end)
+        recording, moments = bytes(byte for byte, _ in written), [moment for _, moment in written]
+        crossed.append(recording)
+    return crossed, is_whole
 
 
 def convert(words, recording):
     tally = words[0] == "tally"
     specs = words[1:] if tally else words
-    moments, crossed, cut = [0] * len(recording), [len(recording)], False
-    for number, (one, other) in enumerate(zip(specs, specs[1:])):
-        told, whole = spec(one)[0](recording, moments)
-        cut = cut or number == 0 and not whole
-        written = spec(other)[1](puts_of(told), end_of(told, moments, recording, one))
-        recording, moments = bytes(byte for byte, _ in written), [moment for _, moment in written]
-        crossed.append(len(recording))
-    lines = [f"{place} {word} {count}\n" for place, (word, count) in enumerate(zip(specs, crossed))] if tally else []
-    return 5 if cut else 0, recording, "".join(lines) + ("input is cut\n" if cut else "")
+    crossed, whole = through(specs, recording)
+    lines = [f"{place} {word} {len(it)}\n" for place, (word, it) in enumerate(zip(specs, crossed))] if tally else []
+    return 0 if whole else 5, crossed[-1], "".join(lines) + ("" if whole else "input is cut\n")
 
 
 def line_of(thing, moment):
@@ -450,8 +437,9 @@ def line_of(thing, moment):
     return f"{moment} {thing[0]}\n"
 
 
-def listing(words, recording, traced):
-    told, whole = spec(words[0])[0](recording, [0] * len(recording))
+def listing(words, recording, traced, goes_on=False):
+    told, whole, _ = spec(words[0])[0](recording, [0] * len(recording))
+    told = [it for it in told if not goes_on or it[0] < END]
     notes = [thing for _, _, thing in told if isinstance(thing, Note)]
     if traced:
         lines = [line_of(thing, moment) for _, moment, thing in told]
@@ -524,7 +512,7 @@ def track_puts(tape, word):
     """The marks of track 0, each at the moment of the record with which it becomes known; and whether all is whole."""
     recording = b"".join(content for _, track, _, content in tape.records if track == 0)
     moments = [moment for moment, track, _, content in tape.records if track == 0 for _ in content]
-    told, whole = spec(word)[0](recording, moments)
+    told, whole, _ = spec(word)[0](recording, moments)
     end = tape.last_moment()
     puts = [(thing, end if where >= END else moments[where[0]]) for where, _, thing in told if not isinstance(thing, Note)]
     return puts, whole and tape.whole
@@ -664,16 +652,12 @@ class File:
             raise Cut
         self.at += count
 
-    def track_byte(self, ends=False, why=None):
-        """The next byte of the track. At the track's last byte its end event must be finished."""
-        byte = self.byte()
-        return byte
-
     def check_last(self):
+        """At the track's last byte its end event must be finished."""
         if self.at == self.end:
             self.fault("track")
 
-    def quantity(self, last_checks=True):
+    def quantity(self):
         value = 0
         for place in range(4):
             byte = self.byte()
