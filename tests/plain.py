@@ -191,11 +191,11 @@ class Packets(Reading):
             self.channel = byte if byte < 0xF0 else self.channel if byte in COMMON_LENGTHS else None
 
     def end_packet(self, at):
-        if self.group.status != 0xF0:
-            self.end_group((at, PACKET_END), self.moment)
-            self.group = Group()
         if self.lone is not None:
-            self.told.append(((at, PACKET_END + 1), self.moment, Note(self.lone, "lone-stamp")))
+            self.told.append(((at, PACKET_END), self.moment, Note(self.lone, "lone-stamp")))
+        if self.group.status != 0xF0:
+            self.end_group((at, PACKET_END + 1), self.moment)
+            self.group = Group()
         self.channel, self.lone = None, None
 
 
@@ -425,7 +425,8 @@ def convert(words, recording):
     tally = words[0] == "tally"
     specs = words[1:] if tally else words
     crossed, whole = through(specs, recording)
-    lines = [f"{place} {word} {len(it)}\n" for place, (word, it) in enumerate(zip(specs, crossed))] if tally else []
+    names = ["ble/20" if word == "ble" else word for word in specs]
+    lines = [f"{place} {name} {len(it)}\n" for place, (name, it) in enumerate(zip(names, crossed))] if tally else []
     return 0 if whole else 5, crossed[-1], "".join(lines) + ("" if whole else "input is cut\n")
 
 
@@ -509,13 +510,14 @@ def migrate(data):
 
 
 def track_puts(tape, word):
-    """The marks of track 0, each at the moment of the record with which it becomes known; and whether all is whole."""
+    """The marks of track 0, each at the moment of the record with which it becomes known, apart from these what only the
+    tape's end makes known; and whether all is whole."""
     recording = b"".join(content for _, track, _, content in tape.records if track == 0)
     moments = [moment for moment, track, _, content in tape.records if track == 0 for _ in content]
     told, whole, _ = spec(word)[0](recording, moments)
-    end = tape.last_moment()
-    puts = [(thing, end if where >= END else moments[where[0]]) for where, _, thing in told if not isinstance(thing, Note)]
-    return puts, whole and tape.whole
+    marks = [(where, thing) for where, _, thing in told if not isinstance(thing, Note)]
+    puts = [(mark, moments[where[0]]) for where, mark in marks if where < END]
+    return puts, [(mark, tape.last_moment()) for where, mark in marks if where >= END], whole and tape.whole
 
 
 def gathered(written):
@@ -532,7 +534,8 @@ def gathered(written):
 
 def guard(words, data):
     tape = Tape(data)
-    puts, whole = track_puts(tape, words[0])
+    puts, ending, whole = track_puts(tape, words[0])
+    puts += ending
     sounding = set()
     for mark, _ in puts:
         if mark[0] == "short" and mark[1][0] >> 4 in (8, 9):
@@ -555,36 +558,34 @@ def quantity(number):
     return bytes(found)
 
 
+def event_of(mark, sysex):
+    """The event of a mark, behind the data of a SysEx, or None where it has none."""
+    if mark[0] == "short" and mark[1][0] < 0xF0:
+        return mark[1]
+    if mark[0] in ("short", "rt"):
+        return b"\xf7" + quantity(len(spelled(mark))) + bytes(spelled(mark))
+    if mark[0] == "end":
+        return b"\xf0" + quantity(len(sysex) + 1) + sysex + b"\xf7"
+    return b"\xf7" + quantity(len(sysex) + 1) + b"\xf0" + sysex if mark[0] == "abort" else None
+
+
 def record(words, data):
     tape = Tape(data)
-    puts, whole = track_puts(tape, words[0])
-    if tape.fault:
-        return 7, b"", f"tape -: {tape.fault}\n"
+    puts, ending, whole = track_puts(tape, words[0])
     track, last, sysex = b"\x00\xff\x51\x03\x0f\x42\x40", None, b""
-    for mark, moment in puts:
+    for mark, moment in puts if tape.fault else puts + ending:
         delta = 0 if last is None else moment // 1000 - last // 1000
         if delta > LONGEST_DELTA:
             return 12, b"", f"gap {last} {moment}\n"
-        event = None
-        if mark[0] == "short" and mark[1][0] < 0xF0:
-            event = mark[1]
-        elif mark[0] in ("short", "rt"):
-            event = b"\xf7" + quantity(len(spelled(mark))) + bytes(spelled(mark))
-        elif mark[0] == "open":
-            sysex = b""
-        elif mark[0] == "data":
-            sysex += bytes(mark[1:])
-        elif mark[0] == "end":
-            event = b"\xf0" + quantity(len(sysex) + 1) + sysex + b"\xf7"
-        else:
-            event = b"\xf7" + quantity(len(sysex) + 1) + b"\xf0" + sysex
+        sysex = b"" if mark[0] == "open" else sysex + bytes(mark[1:]) if mark[0] == "data" else sysex
+        event = event_of(mark, sysex)
         if event is not None:
             track += quantity(delta) + event
             last = moment
+    status, text = tape.answer(not whole)
     track += b"\x00\xff\x2f\x00"
     head = b"MThd\0\0\0\6\0\0\0\1\x03\xe8MTrk" + len(track).to_bytes(4, "big")
-    status, text = tape.answer(not whole)
-    return status, head + track, text
+    return status, b"" if tape.fault else head + track, text
 
 
 class Fault(Exception):
