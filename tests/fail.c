@@ -1,6 +1,6 @@
 // Preloaded into the program, it has one of its calls fail or move a single byte, for tests/sweep.py:
-// FAIL_READ, FAIL_WRITE, FAIL_ALLOC, SHORT_READ and SHORT_WRITE name the call by its number, from 1 on. Reads are those of
-// standard input, writes those of standard output and error. COUNTS names a descriptor that is told, at the end, how
+// FAIL_READ, FAIL_WRITE, FAIL_ALLOC, SHORT_READ and SHORT_WRITE name the call by its number, from 1 on. Reads are those
+// of standard input, writes those of standard output and error. COUNTS names a descriptor that is told, at the end, how
 // many reads, writes and allocations there were.
 #define _GNU_SOURCE
 #include <dlfcn.h>

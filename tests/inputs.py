@@ -29,7 +29,8 @@ def unit(rng):
     if dice < 0.65:
         return [rng.choice(REAL_TIME)]
     if dice < 0.9:
-        length = rng.choice((0, 1, 2, 3, 4, 5, 7, 20, rng.randrange(300), rng.randrange(1500) if rng.random() < 0.1 else 6))
+        long = rng.randrange(1500) if rng.random() < 0.1 else 6
+        length = rng.choice((0, 1, 2, 3, 4, 5, 7, 20, rng.randrange(300), long))
         content = data(rng, length)
         for _ in range(rng.choice((0, 0, 1, 3))):
             content.insert(rng.randrange(len(content) + 1), rng.choice(REAL_TIME))
@@ -182,7 +183,8 @@ def tape(rng, word):
         moment += rng.choice((0, 0, 1, 3, 999, 1000, 1001, 50_000, 10**8))
         if rng.random() < 0.01:
             moment = rng.choice((0, 1 << 40, 18_446_744_073_709_551, 18_446_744_073_709_552, (1 << 64) - 1))
-        found += min(moment, (1 << 64) - 1).to_bytes(8, "big") + (b"" if is_first else bytes([track])) + len(content).to_bytes(2, "big") + content
+        found += min(moment, (1 << 64) - 1).to_bytes(8, "big") + (b"" if is_first else bytes([track]))
+        found += len(content).to_bytes(2, "big") + content
     magic = b"MBT1" if is_first else b"MBT2"
     return spoilt(rng, magic + found) if rng.random() < 0.3 else magic + bytes(found)
 
@@ -216,11 +218,13 @@ def file(rng):
     track, running = [], None
     for _ in range(rng.choice((0, 1, 2, 5, 10, 30, 100))):
         found, running = event(rng, running)
-        track += quantity(rng.choice((0, 0, 1, 96, 127, 128, 20_000, (1 << 28) - 1 if rng.random() < 0.05 else 3))) + found
+        longest = (1 << 28) - 1 if rng.random() < 0.05 else 3
+        track += quantity(rng.choice((0, 0, 1, 96, 127, 128, 20_000, longest))) + found
     end = [0, 0xFF, 0x2F, *([0] if rng.random() < 0.95 else [2, 0, 0])]
     track += end if rng.random() < 0.95 else []
     more = data(rng, rng.choice((0, 0, 0, 3)))
-    head = b"MThd" + (6 + len(more)).to_bytes(4, "big") + bytes([0, 0, 0, 1]) + rng.choice((1, 3, 96, 480, 1000, 32767)).to_bytes(2, "big")
+    division = rng.choice((1, 3, 96, 480, 1000, 32767))
+    head = b"MThd" + (6 + len(more)).to_bytes(4, "big") + bytes([0, 0, 0, 1]) + division.to_bytes(2, "big")
     other = b"XFIH\0\0\0\2ab" if rng.random() < 0.1 else b""
     length = len(track) + (rng.choice((-1, 1, 5)) if rng.random() < 0.05 else 0)
     found = head + bytes(more) + other + b"MTrk" + max(length, 0).to_bytes(4, "big") + bytes(track)

@@ -255,11 +255,13 @@ def read_fire(recording, moments, port):
         expected = (content[3] + blocks) % 256
         for number in range(blocks):
             first = 8 + number * size
-            read_block(reading, content[first : first + size], start + 2 + first, size, moments, (content[3] + number) % 8, port)
+            block, stream = content[first : first + size], (content[3] + number) % 8
+            read_block(reading, block, start + 2 + first, size, moments, stream, port)
     return reading.finish(), whole, reading.moment
 
 
 def read_block(reading, block, start, size, moments, stream, port):
+    """Takes the port's bytes of a block, which begins at start and has size bytes, of which these stand there."""
     count = 0
     for at in range(0, len(block), 4):
         label = block[at]
@@ -407,7 +409,7 @@ def puts_of(told):
 
 
 def through(specs, recording, goes_on=False):
-    """What crosses each spec, and whether the recording is whole; where it goes on, what is known and written so far."""
+    """What crosses each spec, and whether the recording is whole; where it goes on, what is known and written."""
     moments, crossed, is_whole = [0] * len(recording), [recording], True
     for number, (one, other) in enumerate(zip(specs, specs[1:])):
         reader, writer = spec(one)[0], spec(other)[1]
@@ -454,7 +456,8 @@ def listing(words, recording, traced, goes_on=False):
 
 
 class Tape:
-    """A tape, read up to its first fault: records (moment in microseconds, track, length, the bytes that stand there)."""
+    """A tape up to its first fault: records of a moment in microseconds, a track, a length, and the bytes that stand
+    there."""
 
     def __init__(self, data):
         self.records, self.fault, self.whole, self.has_magic = [], None, False, False
@@ -510,8 +513,8 @@ def migrate(data):
 
 
 def track_puts(tape, word):
-    """The marks of track 0, each at the moment of the record with which it becomes known, apart from these what only the
-    tape's end makes known; and whether all is whole."""
+    """The marks of track 0, each at the moment of the record with which it becomes known, apart from these what only
+    the tape's end makes known; and whether all is whole."""
     recording = b"".join(content for _, track, _, content in tape.records if track == 0)
     moments = [moment for moment, track, _, content in tape.records if track == 0 for _ in content]
     told, whole, _ = spec(word)[0](recording, moments)
@@ -520,21 +523,24 @@ def track_puts(tape, word):
     return puts, [(mark, tape.last_moment()) for where, mark in marks if where >= END], whole and tape.whole
 
 
-def gathered(written):
-    """A tape of the second form of bytes with moments."""
+def gathered(written, goes_on=False):
+    """A tape of the second form of bytes with moments; without its last record where more bytes may follow."""
     tape, at = b"MBT2", 0
     while at < len(written):
         moment, until = written[at][1], at
         while until < len(written) and written[until][1] == moment and until - at < 255:
             until += 1
-        tape += header_of(moment, 0, until - at) + bytes(byte for byte, _ in written[at:until])
+        if until < len(written) or not goes_on:
+            tape += header_of(moment, 0, until - at) + bytes(byte for byte, _ in written[at:until])
         at = until
     return tape
 
 
-def guard(words, data):
+def guard(words, data, goes_on=False):
     tape = Tape(data)
     puts, ending, whole = track_puts(tape, words[0])
+    if goes_on:
+        return None, gathered(write_line(puts, None), goes_on) if tape.has_magic else b"", None
     puts += ending
     sounding = set()
     for mark, _ in puts:
@@ -735,7 +741,7 @@ class File:
         return True
 
 
-def play(data):
+def play(data, goes_on=False):
     file = File(data)
     try:
         file.read()
@@ -744,7 +750,7 @@ def play(data):
         status, text = 5, "input is cut\n"
     except Fault as fault:
         status, text = 13, f"smf {fault.at}: {fault.why}\n"
-    return status, gathered(file.given), text
+    return status, gathered(file.given, goes_on) if file.given or not goes_on else b"", text
 
 
 def answer(words, data):

@@ -9,6 +9,7 @@ Ends with status 1 where an answer is wrong."""
 import argparse
 import os
 import random
+import shutil
 import subprocess
 import sys
 import tempfile
@@ -40,7 +41,7 @@ def right_tape(rng, word):
 
 def right_file(rng):
     while True:
-        found = b"".join([inputs.file(rng)])
+        found = inputs.file(rng)
         if plain.play(found)[0] == 0:
             return found
 
@@ -77,6 +78,13 @@ def stopped(words, found):
     if command in ("check", "trace"):
         return plain.listing(rest, found, command == "trace", goes_on=True)[1]
     return b"" if command in ("record", "selftest") else plain.answer(words, found)[1]
+
+
+def least(words, found):
+    """What stands on standard output at least, once these bytes were read and what they give was written."""
+    if words[0] == "guard":
+        return plain.guard(words[1:], found, goes_on=True)[1]
+    return plain.play(found, goes_on=True)[1] if words[0] == "play" else stopped(words, found)
 
 
 class Sweep:
@@ -153,8 +161,7 @@ class Sweep:
             return False
         if out == whole_out:
             return bool(whole_said) and self.words[1:2] == ["tally"] and tally != whole_said
-        least = stopped(self.words, read[: max(len(read) - READ, 0)])
-        return not tally and whole_out.startswith(out) and out.startswith(least if self.words[0] not in ("guard", "play") else b"")
+        return not tally and whole_out.startswith(out) and out.startswith(least(self.words, read[:-READ]))
 
 
 def plain_knows(words):
@@ -167,6 +174,9 @@ def main():
     parser.add_argument("--verbose", action="store_true")
     options = parser.parse_args()
     options.program = os.path.abspath(options.program)
+    if not shutil.which("cc"):
+        print("there is no cc here, so no call is made to fail")
+        return 0
     with tempfile.TemporaryDirectory() as room:
         options.library = f"{room}/fail.so"
         subprocess.run(["cc", "-O2", "-shared", "-fPIC", "-o", options.library, f"{HERE}/fail.c", "-ldl"], check=True)
