@@ -1,4 +1,6 @@
-"""Inputs for tests/long_run.py: recordings, tapes and files made at random, right ones and spoilt ones."""
+"""Inputs for tests/long_run.py: recordings, tapes and files made at random, right ones and spoilt ones; and all short
+byte lines and BLE-MIDI packets of a few kinds of bytes."""
+import itertools
 
 CHANNEL = (0x80, 0x90, 0x90, 0x90, 0xA0, 0xB0, 0xC0, 0xD0, 0xE0)
 REAL_TIME = (0xF8, 0xFA, 0xFB, 0xFC, 0xFE, 0xFF)
@@ -230,3 +232,16 @@ def file(rng):
     found = head + bytes(more) + other + b"MTrk" + max(length, 0).to_bytes(4, "big") + bytes(track)
     found += bytes(data(rng, 4)) if rng.random() < 0.1 else b""
     return spoilt(rng, found) if rng.random() < 0.3 else found
+
+
+def small():
+    """Words and input: each byte line and each packet of up to four bytes of a few kinds, and five bytes in two
+    packets."""
+    for count in range(5):
+        for found in itertools.product(bytes.fromhex("003C90C0F0F1F2F4F6F7F8F9"), repeat=count):
+            yield ["trace", "din"], bytes(found)
+        for found in itertools.product(bytes.fromhex("3C80A590C0F0F2F6F7F8"), repeat=count):
+            yield ["trace", "ble"], bytes(framed([0x83, *found]))
+    for found in itertools.product(bytes.fromhex("3C8190F0F6F7"), repeat=5):
+        for cut in range(1, 5):
+            yield ["trace", "ble"], bytes(framed([0x80, *found[:cut]]) + framed([0x80, *found[cut:]]))

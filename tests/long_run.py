@@ -1,13 +1,14 @@
 #!/usr/bin/env python3
 """Holds the program against tests/plain.py over inputs made at random, each cut at random into what its reads give.
 
-    tests/long_run.py [--program ./midibridge] [--cases 100000] [--seed 1] [--jobs 4] [--only COMMAND]
+    tests/long_run.py [--program ./midibridge] [--cases 100000] [--seed 1] [--jobs 4] [--only COMMAND] [--small]
 
-A case is made from the seed and its number. Standard input is a socket of packets, of which a read gives just one.
+A case is made from the seed and its number; with --small the cases are all short inputs of a few kinds of bytes. Standard input is a socket of packets, of which a read gives just one.
 Prints each case in which status, standard output or standard error differ, with its bytes, and counts at the end.
 Ends with status 1 where a case differs."""
 import argparse
 import collections
+import functools
 import multiprocessing
 import os
 import random
@@ -51,6 +52,11 @@ def case(rng, only=None):
     return words, found, cuts
 
 
+@functools.cache
+def small_cases():
+    return [(words, found, [len(found)] if found else []) for words, found in inputs.small()]
+
+
 def run(program, words, found, cuts, room):
     """What the program answers to these reads."""
     ours, theirs = socket.socketpair(socket.AF_UNIX, socket.SOCK_SEQPACKET)
@@ -76,7 +82,8 @@ def part(job):
     counts, differ = collections.Counter(), []
     room = "/dev/shm" if os.path.isdir("/dev/shm") else None
     for number in numbers:
-        words, found, cuts = case(random.Random(f"{options.seed}/{number}"), options.only)
+        made = small_cases()[number] if options.small else case(random.Random(f"{options.seed}/{number}"), options.only)
+        words, found, cuts = made
         wanted = plain.answer(words, found)
         answer = run(options.program, words, found, cuts, room)
         counts[words[0]] += 1
@@ -101,7 +108,9 @@ def main():
     parser.add_argument("--seed", type=int, default=1)
     parser.add_argument("--jobs", type=int, default=os.cpu_count())
     parser.add_argument("--only")
+    parser.add_argument("--small", action="store_true")
     options = parser.parse_args()
+    options.cases = len(small_cases()) if options.small else options.cases
     options.program = os.path.abspath(options.program)
     step = 500
     jobs = [(options, range(at, min(at + step, options.cases))) for at in range(0, options.cases, step)]
