@@ -3,9 +3,9 @@
 
     tests/long_run.py [--program ./midibridge] [--cases 100000] [--seed 1] [--jobs 4] [--only COMMAND] [--small]
 
-A case is made from the seed and its number; with --small the cases are all short inputs of a few kinds of bytes. Standard input is a socket of packets, of which a read gives just one.
-Prints each case in which status, standard output or standard error differ, with its bytes, and counts at the end.
-Ends with status 1 where a case differs."""
+A case is made from the seed and its number; with --small the cases are all short inputs of a few kinds of bytes.
+Standard input is a socket of packets, of which a read gives just one. Prints each case in which status, standard output
+or standard error differ, with its bytes, and counts at the end. Ends with status 1 where a case differs."""
 import argparse
 import collections
 import functools
