@@ -300,12 +300,7 @@ impl DinReader {
 
     /// Takes a real-time byte.
     #[inline(always)]
-    fn take_realtime<'a>(
-        &mut self,
-        byte: u8,
-        rest: &'a [u8],
-        input: &mut &'a [u8],
-    ) -> Seen<'static>
+    fn take_realtime<'a>(&mut self, byte: u8, rest: &'a [u8], input: &mut &'a [u8]) -> Seen<'static>
         requires first { input.old.now ≡ byte ∷ rest.now }
         requires early { self.old.offset + length input.old.now < 2 ^ 63 }
         requires realtime { is_realtime byte ≡ true }
@@ -321,12 +316,7 @@ impl DinReader {
 
     /// Takes a data byte where nothing is begun or runs.
     #[inline(always)]
-    fn take_stray<'a>(
-        &mut self,
-        byte: u8,
-        rest: &'a [u8],
-        input: &mut &'a [u8],
-    ) -> Seen<'static>
+    fn take_stray<'a>(&mut self, byte: u8, rest: &'a [u8], input: &mut &'a [u8]) -> Seen<'static>
         requires first { input.old.now ≡ byte ∷ rest.now }
         requires early { self.old.offset + length input.old.now < 2 ^ 63 }
         requires is_data { is_data byte ≡ true }
