@@ -119,14 +119,23 @@ fn fill_buffer<'a, R: EventReader, W: EventWriter>(
     let at = reader.moment(piece.moment);
     let mut run: &'a [u8] = &[];
     let mut rest = piece.rest;
-    if !put_event(writer, at, piece.ev, &mut run, held) {
+    if !put_event(writer, at, room, piece.ev, &mut run, held) {
         return Some(Piece {
             moment: piece.moment,
             ev: Ev::Run(run),
             rest,
         });
     }
-    if let Some(ev) = read_on(reader, writer, apart, piece.moment, at, &mut rest, held) {
+    if let Some(ev) = read_on(
+        reader,
+        writer,
+        apart,
+        piece.moment,
+        at,
+        room,
+        &mut rest,
+        held,
+    ) {
         return Some(Piece {
             moment: piece.moment,
             ev,
@@ -144,10 +153,12 @@ fn read_on<'a, R: EventReader, W: EventWriter>(
     apart: bool,
     moment: u64,
     at: u64,
+    room: usize,
     rest: &mut &'a [u8],
     held: &mut Buf,
 ) -> Option<Ev<'a>>
     requires early { R.offset reader.old + length rest.old.now ≤ 2 ^ 51 + 2 ^ 14 }
+    requires asked { room ≡ hop_room_of (W.spec writer.old) }
     requires room { array_vec_len held.old + hop_room_of (W.spec writer.old) ≤ 1024 }
     requires at { at ≡ R.moment reader.old moment }
     requires flows { (moments : ℕ → ℕ) × (bytes : List ℕ) × (puts : List Put) × (base : List ℕ) ×
@@ -179,7 +190,7 @@ fn read_on<'a, R: EventReader, W: EventWriter>(
             return Some(event_of(seen));
         }
         let mut run: &'a [u8] = &[];
-        if !put_seen(writer, now, seen, &mut run, held) {
+        if !put_seen(writer, now, room, seen, &mut run, held) {
             return Some(Ev::Run(run));
         }
     }
@@ -213,10 +224,12 @@ fn event_of<'a>(seen: Seen<'a>) -> Ev<'a>
 fn put_seen<'a, W: EventWriter>(
     writer: &mut W,
     at: u64,
+    room: usize,
     seen: Seen<'a>,
     run: &mut &'a [u8],
     held: &mut Buf,
 ) -> bool
+    requires asked { room ≡ hop_room_of (W.spec writer.old) }
     requires room { array_vec_len held.old + hop_room_of (W.spec writer.old) ≤ 1024 }
     requires run { run.old.now ≡ [] }
     requires suits { MayCome (W.in_sysex writer.old) (seen_signs seen) }
@@ -229,7 +242,7 @@ fn put_seen<'a, W: EventWriter>(
 {
     match seen {
         Seen::Note(_) => true,
-        Seen::Ev(ev) => put_event(writer, at, ev, run, held),
+        Seen::Ev(ev) => put_event(writer, at, room, ev, run, held),
     }
 }
 
@@ -238,10 +251,12 @@ fn put_seen<'a, W: EventWriter>(
 fn put_event<'a, W: EventWriter>(
     writer: &mut W,
     at: u64,
+    room: usize,
     ev: Ev<'a>,
     run: &mut &'a [u8],
     held: &mut Buf,
 ) -> bool
+    requires asked { room ≡ hop_room_of (W.spec writer.old) }
     requires room { array_vec_len held.old + hop_room_of (W.spec writer.old) ≤ 1024 }
     requires run { run.old.now ≡ [] }
     requires suits { MayCome (W.in_sysex writer.old) (signs_of_event ev) }
@@ -256,15 +271,22 @@ fn put_event<'a, W: EventWriter>(
     match ev {
         Ev::Run(bytes) => {
             *run = bytes;
-            put_run(writer, at, run, held)
+            put_run(writer, at, room, run, held)
         }
-        _ => put_one(writer, at, ev, held),
+        _ => put_one(writer, at, room, ev, held),
     }
 }
 
 /// Writes a run of any length in pieces that the writer takes, as far as there is room.
 #[inline(always)]
-fn put_run<W: EventWriter>(writer: &mut W, at: u64, run: &mut &[u8], held: &mut Buf) -> bool
+fn put_run<W: EventWriter>(
+    writer: &mut W,
+    at: u64,
+    room: usize,
+    run: &mut &[u8],
+    held: &mut Buf,
+) -> bool
+    requires asked { room ≡ hop_room_of (W.spec writer.old) }
     requires room { array_vec_len held.old + hop_room_of (W.spec writer.old) ≤ 1024 }
     requires suits { MayCome (W.in_sysex writer.old) (map ByteSign run.old.now) }
     ensures spec { W.spec writer.new ≡ W.spec writer.old }
@@ -278,16 +300,17 @@ fn put_run<W: EventWriter>(writer: &mut W, at: u64, run: &mut &[u8], held: &mut 
     'pieces: while !run.is_empty() {
         let (piece, others) = run.split_at(run.len().min(writer.longest()));
         *run = others;
-        if !put_one(writer, at, Ev::Run(piece), held) {
+        if !put_one(writer, at, room, Ev::Run(piece), held) {
             return false;
         }
     }
     true
 }
 
-/// Writes an event, and answers whether there is room for one more.
+/// Writes an event, and answers whether there is room for one more, for which the writer asks for so many free bytes.
 #[inline(always)]
-fn put_one<W: EventWriter>(writer: &mut W, at: u64, ev: Ev<'_>, held: &mut Buf) -> bool
+fn put_one<W: EventWriter>(writer: &mut W, at: u64, room: usize, ev: Ev<'_>, held: &mut Buf) -> bool
+    requires asked { room ≡ hop_room_of (W.spec writer.old) }
     requires room { array_vec_len held.old + hop_room_of (W.spec writer.old) ≤ 1024 }
     requires suits { suits_event (W.in_sysex writer.old) ev ≡ true }
     requires run { IsRunOf (hop_longest_of (W.spec writer.old)) ev }
@@ -298,5 +321,5 @@ fn put_one<W: EventWriter>(writer: &mut W, at: u64, ev: Ev<'_>, held: &mut Buf) 
     ensures room { result ≡ true → array_vec_len held.new + hop_room_of (W.spec writer.old) ≤ 1024 }
 {
     writer.put(at, ev, held);
-    writer.room() <= held.capacity() - held.len()
+    room <= held.capacity() - held.len()
 }

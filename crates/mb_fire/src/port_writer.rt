@@ -2,6 +2,8 @@
 
 ghost use Rattle.std.specs.Prelude.{◌≡◌, ◌+◌, ◌*◌, ◌/◌, ◌<◌, ◌≤◌, true, false, List, [], ◌∷◌, ◌++◌, length};
 ghost use Rattle.arrayvec.specs.ArrayVec.{array_vec_len};
+ghost use Rattle.std.specs.Option.{unwrap_or};
+ghost use Rattle.mb_message.specs.Bytes.{data_length};
 ghost use Rattle.mb_message.specs.Signs.{Sign, suits_event, open_behind, signs_of_event};
 ghost use Rattle.mb_stream.specs.Appended.{Appended};
 ghost use Rattle.mb_stream.specs.Spelling.{data_of, full_bytes};
@@ -161,7 +163,7 @@ fn put_short(port: u8, dbc: u8, short: Short, out: &mut Buf) -> u8
     ensures len { array_vec_len out.new ≡ array_vec_len out.old +
         frame_size (port / 8) * length (short.status ∷ data_of short.status short.data1 short.data2) }
 {
-    let len = data_len(short.status()).unwrap_or(0);
+    let len = data_count(short.status());
     if len == 0 {
         put_one(port, dbc, short.status(), out)
     } else if len == 1 {
@@ -175,6 +177,17 @@ fn put_short(port: u8, dbc: u8, short: Short, out: &mut Buf) -> u8
             out,
         )
     }
+}
+
+/// How many data bytes a message of this status has. Most have two, and most of these are asked for first.
+#[inline(always)]
+fn data_count(status: u8) -> u8
+    ensures { result ≡ unwrap_or (data_length status) 0 }
+{
+    if status >= 0x80 && status < 0xc0 {
+        return 2;
+    }
+    data_len(status).unwrap_or(0)
 }
 
 /// Appends a packet for a byte, and answers the count behind it.
