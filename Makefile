@@ -9,8 +9,8 @@ SHELL := bash
 
 PROGRAM := midibridge
 PREFIX ?= /usr/local
-# how many crates are proved side by side
-JOBS ?= $(shell nproc)
+# how many crates are proved side by side; one that waits for a crate below it holds its place
+JOBS ?= $(shell echo $$(($$(nproc) * 3 / 2)))
 
 # the crates that the program needs: it, and again and again what a crate of it names
 NEEDED := $(shell tac crates.txt | awk -F '[: ]+' -v top=$(PROGRAM) \
