@@ -1,7 +1,7 @@
 //! The router.
 
 ghost use Rattle.std.specs.Prelude.{◌≡◌, ◌↔◌, ◌<◌, ◌≤◌, List, Bool, true, false, None, length, slice_get};
-ghost use Rattle.std.specs.Prelude.{slice_index_or, IsErr, IfErr, OnErr, OnOk, OnSome, MatchResult};
+ghost use Rattle.std.specs.Prelude.{slice_index_or, IsErr, IfErr, IfSome, OnErr, OnOk, OnSome, MatchResult};
 ghost use Rattle.mb_message.specs.Signs.{sign_of, suits_sign};
 ghost use Rattle.mb_merge.specs.Links.{link_of, owner_of};
 ghost use Rattle.mb_merge.specs.Passing.{has_room, head_passes, held_passes, least, next_of, offered_in, offered_mark};
@@ -115,6 +115,7 @@ impl Router {
     pub fn next_passed(&mut self) -> Option<Passed>
         ensures passed { result ≡ (next_of self.old).0 }
         ensures state { self.new ≡ (next_of self.old).1 }
+        ensures source { IfSome result (λ passed. passed.source < length self.new.links) }
         // A caller's loop ends.
         ensures fewer { OnSome result (to_pass self.new < to_pass self.old) }
     {
@@ -125,6 +126,7 @@ impl Router {
     fn next(&mut self) -> Option<Passed>
         ensures passed { result ≡ (next_of self.old).0 }
         ensures state { self.new ≡ (next_of self.old).1 }
+        ensures source { IfSome result (λ passed. passed.source < length self.new.links) }
     {
         if let Some(passed) = self.offered {
             self.offered = None;
@@ -139,6 +141,7 @@ impl Router {
         requires { self.old.offered ≡ None }
         ensures passed { result ≡ (held_passes self.old (least self.old.links)).0 }
         ensures state { self.new ≡ (held_passes self.old (least self.old.links)).1 }
+        ensures source { IfSome result (λ passed. passed.source < length self.new.links) }
     {
         let Some(head) = least(&self.sources) else {
             self.draining = false;
@@ -152,6 +155,7 @@ impl Router {
         requires source { source < length self.old.links }
         ensures passed { result ≡ (head_passes self.old source (slice_get (link_of self.old source).held 0)).0 }
         ensures state { self.new ≡ (head_passes self.old source (slice_get (link_of self.old source).held 0)).1 }
+        ensures source { IfSome result (λ passed. passed.source < length self.new.links) }
     {
         match self.sources[source].pass_head() {
             None => {
@@ -230,6 +234,14 @@ impl Router {
     {
         let _outs = self.outs;
         self.sources[source as usize].goes(out)
+    }
+
+    /// Of each out whether a source goes there.
+    pub fn outs_of(&self, source: u8) -> &[bool]
+        requires { source < length self.now.links }
+        ensures { result.now ≡ (link_of self.now source).outs }
+    {
+        self.sources[source as usize].outs()
     }
 }
 

@@ -85,6 +85,14 @@ impl Source {
         self.outs[out as usize]
     }
 
+    /// Of each out whether it goes there.
+    #[inline(always)]
+    pub fn outs(&self) -> &[bool]
+        ensures { result.now ≡ self.now.outs }
+    {
+        &self.outs
+    }
+
     /// Whether it has an open SysEx on this out.
     #[inline(always)]
     pub fn owns_out(&self, out: u8) -> bool

@@ -7,6 +7,12 @@ pub mod OutletLemmas
 pub mod HeardLemmas
 pub mod LinkLemmas
 pub mod OutsLemmas
+pub mod FrameLemmas
+pub mod BayLemmas
 pub mod FilesLemmas
+pub mod FeedLemmas
+pub mod StepLemmas
+pub mod RunLemmas
+pub mod EndLemmas
 mod Examples
 pub mod Merging

@@ -1,6 +1,8 @@
 -- What a link stands for, step by step.
 use Rattle.std.proofs.Common.{◌≡◌, ◌≤◌, ◌+◌, ◌-◌, ◌^◌, ℕ, Bool, true, false, not, List, [], ◌∷◌, ◌++◌, length}
-use Rattle.std.proofs.Common.{take, drop, refl}
+use Rattle.std.proofs.Common.{take, drop, refl, ◌*◌, ◌<◌, ◌≢◌, IfOk, OnSome, length-drop, length-take}
+use Rattle.std.specs.Prelude.{if◌then◌else◌}
+use Rattle.std.proofs.lemmas.Bool.{true≢false}
 use Rattle.std.proofs.Common.{sym, ◌∙◌, ap, subst, arith, append_assoc, length-append, IsTrue, Option, Some, None}
 use Rattle.std.proofs.Common.{Result}
 use Rattle.std.proofs.Common.{Ok, Err}
@@ -15,17 +17,18 @@ use Rattle.mb_outside.specs.Contents.{Contents, after_read, is_readable}
 use Rattle.mb_outside.specs.ContentsLaws.{after_read-none, after_read-twice, with_entry-here}
 use Rattle.mb_frames.specs.Tapes.{tape_fault}
 use Rattle.mb_frames.specs.declared.tape.TapeFault.{TapeFault}
+use Rattle.mb_frames.proofs.TapeStepLemmas.{owed-little}
 use Rattle.mb_carrier.specs.Carrier.{payload_of}
 use Rattle.mb_carrier.specs.declared.spec.Spec.{Spec}
 use Rattle.mb_track.specs.Track.{last_record_moment, recording, track_end, track_marks, track_marks_so_far}
 use Rattle.mb_track.specs.Track.{track_records, track_whole}
 use Rattle.mb_track.specs.TrackReading.{TrackGoes, TrackStands, TrackTold, track_moment, track_of, track_offset}
-use Rattle.mb_track.specs.TrackReading.{track_spec}
+use Rattle.mb_track.specs.TrackReading.{track_owed, track_spec}
 use Rattle.mb_track.specs.declared.track.TrackReader.{TrackReader}
-use Rattle.mb_track.proofs.StandLemmas.{stands-more}
+use Rattle.mb_track.proofs.StandLemmas.{own-owed, stands-more}
 use Rattle.mb_rig.specs.Heard.{IfNothing, heard_fault, heard_signs}
 use Rattle.mb_rig.specs.Supply.{Drew, SupplyValue, front_of}
-use Rattle.mb_rig.specs.Link.{LinkHeard, LinkReads, LinkRests, LinkStands, TookFrom}
+use Rattle.mb_rig.specs.Link.{LinkHeard, LinkReads, LinkRests, LinkStands, TookFrom, link_owed, link_work}
 use Rattle.mb_rig.specs.declared.heard.Heard.{Heard}
 use Rattle.mb_rig.specs.declared.link.Link.{Link}
 
@@ -349,3 +352,77 @@ link-too_long tells contents l m at told goes_on used front count full limit res
       ),
       ap tape_fault taken ∙ (rests st.bytes told r).fault_is,
     )
+
+-- what it may yet hear
+
+pub owed-few : (r : TrackReader) → track_owed r ≤ 7
+owed-few r = omega (arith, owed-little r.tape, own-owed r.own r.reader)
+
+pub some-length : (xs : List ℕ) → xs ≢ [] → 1 ≤ length xs
+some-length [] some = absurd (some refl)
+some-length (x ∷ xs) some = omega arith
+
+-- what is left behind one byte is one byte less
+behind-front : (xs ys : List ℕ) → xs ≡ take 1 xs ++ ys → ys ≢ [] → length ys + 1 ≡ length xs
+behind-front [] ys e some = absurd (some (sym e))
+behind-front (x ∷ xs) ys e some = omega (arith, ap length e)
+
+-- it heard nothing of a byte that it took
+pub work-passed : (l m : Link) → m.supply.limit ≡ l.supply.limit → m.supply.count ≡ l.supply.count →
+    l.supply.ahead ≡ front_of l.supply ++ m.supply.ahead → m.supply.ahead ≢ [] → link_work m ≤ link_work l
+work-passed l m limit count front some =
+    let less = behind-front l.supply.ahead m.supply.ahead front some in
+    let room : m.supply.limit - m.supply.count ≡ l.supply.limit - l.supply.count = omega (arith, limit, count) in
+    omega (arith, room, less, owed-few m.reader)
+
+-- it read on behind all that it had
+pub work-read : (l m : Link) (n : SupplyValue) → m.supply.limit ≡ l.supply.limit → m.supply.count ≡ l.supply.count →
+    n.limit ≡ m.supply.limit → n.count ≡ m.supply.count + length n.ahead → n.count ≤ n.limit → n.ahead ≢ [] →
+    link_work (record m { supply = n }) ≤ link_work l
+work-read l m n limit count limit_now count_now within some =
+    let many = some-length n.ahead some in
+    let room : l.supply.limit - l.supply.count ≡ n.limit - n.count + length n.ahead =
+    omega (arith, limit, count, limit_now, count_now, within) in
+    omega (arith, room, many, owed-few m.reader)
+
+pub work-heard : (l m : Link) → m.supply.limit ≡ l.supply.limit → m.supply.count ≡ l.supply.count →
+    8 * length m.supply.ahead + track_owed m.reader < 8 * length l.supply.ahead + track_owed l.reader →
+    link_work m < link_work l
+work-heard l m limit count less =
+    let room : m.supply.limit - m.supply.count ≡ l.supply.limit - l.supply.count = omega (arith, limit, count) in
+    omega (arith, room, less)
+
+-- a step of hearing, of what is at hand
+pub hear-owed : (r : Result (Option Heard) TapeFault) (l : Link) (m : SupplyValue) (reader : TrackReader)
+    (front left : List ℕ) (many : ℕ) →
+    front ≡ front_of l.supply → length left ≤ length front → many ≡ length front - length left →
+    m ≡ (record l.supply { ahead = drop many l.supply.ahead }) →
+    IfOk r (λ h. OnSome h (8 * length left + track_owed reader < 8 * length front + track_owed l.reader)) →
+    IfOk r (λ h. OnSome h (8 * length m.ahead + track_owed reader <
+    8 * length l.supply.ahead + track_owed l.reader))
+hear-owed (Ok None) l m reader front left many is_front fewer count supply less = tt
+hear-owed (Ok (Some h)) l m reader front left many is_front fewer count supply less =
+    let ahead : length m.ahead ≡ length l.supply.ahead - many =
+    ap (λ (s : SupplyValue). length s.ahead) supply ∙ length-drop many l.supply.ahead in
+    let within : length front ≤ length l.supply.ahead =
+    omega (arith, ap length is_front, length-take 1 l.supply.ahead) in
+    let same : length m.ahead + length front ≡ length l.supply.ahead + length left =
+    omega (arith, ahead, within, fewer, count) in
+    omega (arith, same, less)
+hear-owed (Err f) l m reader front left many is_front fewer count supply less = tt
+
+pub owed-heard : (l m : Link) → l.over ≡ false → m.over ≡ false → link_work m < link_work l → link_owed m < link_owed l
+owed-heard l m going still less = falls l.over m.over going still where
+  falls : (was now : Bool) → was ≡ false → now ≡ false →
+      (if now then 0 else 1 + link_work m) < (if was then 0 else 1 + link_work l)
+  falls true now going still = absurd (true≢false going)
+  falls false true going still = absurd (true≢false still)
+  falls false false going still = omega (arith, less)
+
+pub owed-ended : (l m : Link) → l.over ≡ false → m.over ≡ true → link_owed m < link_owed l
+owed-ended l m going ended = falls l.over m.over going ended where
+  falls : (was now : Bool) → was ≡ false → now ≡ true →
+      (if now then 0 else 1 + link_work m) < (if was then 0 else 1 + link_work l)
+  falls true now going ended = absurd (true≢false going)
+  falls false true going ended = omega arith
+  falls false false going ended = absurd (true≢false (sym ended))

@@ -30,4 +30,5 @@ mod RunExamples
 pub mod PassesTold
 pub mod Offers
 pub mod OpenBegins
+pub mod RoomLemmas
 pub mod OutTags

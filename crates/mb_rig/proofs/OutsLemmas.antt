@@ -8,10 +8,11 @@ use Rattle.mb_outside.specs.Contents.{Contents, is_writable, with_entry}
 use Rattle.mb_outside.specs.Taking.{Wrote}
 use Rattle.mb_carrier.specs.Carrier.{written}
 use Rattle.mb_rig.specs.Outlet.{OutletStands, outlet_spec}
-use Rattle.mb_rig.specs.Outs.{AllSuit, OutsEnded, OutsStand, WroteAmong, flush_puts, pass_puts, put_where}
+use Rattle.mb_rig.specs.Outs.{AllSuit, OutsEnded, OutsStand, WroteAmong, flush_puts, pass_puts}
+use Rattle.mb_rig.specs.Merging.Ended.{put_where}
 use Rattle.mb_rig.specs.declared.outlet.Outlet.{Outlet}
 
-entry-other : (entries : ℕ → List ℕ) (handle : ℕ) (bytes : List ℕ) (other : ℕ) → other ≢ handle →
+pub entry-other : (entries : ℕ → List ℕ) (handle : ℕ) (bytes : List ℕ) (other : ℕ) → other ≢ handle →
     with_entry entries handle bytes other ≡ entries other
 entry-other entries handle bytes other apart = grind (arith, nat_tests)
 
@@ -63,18 +64,18 @@ among-both tells contents read_faults first count all a b c more x y = record {
 
 -- what others were written leaves an out as it was
 pub outlet-kept : {S : Type 0} (tells : Bool) (contents : S → Contents) (read_faults : S → ℕ) (first count : ℕ)
-    (o : Outlet) (puts : List Put) (before after : S) → (first ≤ o.handle → o.handle < first + count → ⊥) →
-    WroteAmong tells contents read_faults first count before after → OutletStands tells contents o before puts →
+    (o : Outlet) (puts : List Put) (before after : S) →
+    (IsTrue tells → first ≤ o.handle → o.handle < first + count → ⊥) → WroteAmong tells contents read_faults first count before after → OutletStands tells contents o before puts →
     OutletStands tells contents o after puts
 outlet-kept tells contents read_faults first count o puts before after apart wrote st = record {
   stands = st.stands;
   writable = λ t.
       ap (λ given. is_writable (record (contents before) { given = given }) o.handle) (wrote.given t) ∙ st.writable t;
-  has = λ t. wrote.others t o.handle apart ∙ st.has t;
+  has = λ t. wrote.others t o.handle (apart t) ∙ st.has t;
 }
 
 pub outs-kept : {S : Type 0} (tells : Bool) (contents : S → Contents) (read_faults : S → ℕ) (low count first : ℕ)
-    (outs : List Outlet) (putss : List (List Put)) (before after : S) → low + count ≤ first →
+    (outs : List Outlet) (putss : List (List Put)) (before after : S) → (IsTrue tells → low + count ≤ first) →
     WroteAmong tells contents read_faults low count before after → OutsStand tells contents first outs before putss →
     OutsStand tells contents first outs after putss
 outs-kept tells contents read_faults low count first [] [] before after apart wrote st = tt
@@ -83,8 +84,9 @@ outs-kept tells contents read_faults low count first (o ∷ os) [] before after 
 outs-kept tells contents read_faults low count first (o ∷ os) (ps ∷ pss) before after apart wrote st = (
   st.0,
   outlet-kept tells contents read_faults low count o ps before after
-      (λ lower higher. omega (arith, st.0, higher, apart)) wrote st.1,
-  outs-kept tells contents read_faults low count (first + 1) os pss before after (omega (arith, apart)) wrote st.2,
+      (λ t lower higher. omega (arith, st.0 t, higher, apart t)) wrote st.1,
+  outs-kept tells contents read_faults low count (first + 1) os pss before after (λ t. omega (arith, apart t)) wrote
+      st.2,
 )
 
 -- the first out and those behind it
@@ -93,7 +95,7 @@ pub record OutsSplit {S : Type 0} (tells : Bool) (contents : S → Contents) (fi
   pub ps : List Put
   pub pss : List (List Put)
   pub whole : putss ≡ ps ∷ pss
-  pub handle : o.handle ≡ first
+  pub handle : IsTrue tells → o.handle ≡ first
   pub stands : OutletStands tells contents o at ps
   pub behind : OutsStand tells contents (first + 1) os at pss
 
@@ -118,8 +120,20 @@ pub outs-behind : {S : Type 0} (tells : Bool) (contents : S → Contents) (read_
     WroteAmong tells contents read_faults o.handle 1 at mid) →
     (split : OutsSplit tells contents first o os at putss) → OutsStand tells contents (first + 1) os mid split.pss
 outs-behind tells contents read_faults first o os at mid putss among split =
-    outs-kept tells contents read_faults o.handle 1 (first + 1) os split.pss at mid (omega (arith, split.handle))
+    outs-kept tells contents read_faults o.handle 1 (first + 1) os split.pss at mid (λ t. omega (arith, split.handle t))
     (among split.ps split.stands) split.behind
+
+among-at : {S : Type 0} (tells : Bool) (contents : S → Contents) (read_faults : S → ℕ) (handle first : ℕ)
+    (before after : S) → (IsTrue tells → handle ≡ first) → WroteAmong tells contents read_faults handle 1 before after →
+    WroteAmong tells contents read_faults first 1 before after
+among-at tells contents read_faults handle first before after same wrote = record {
+  left = wrote.left;
+  taken = wrote.taken;
+  given = wrote.given;
+  others = λ t h apart.
+      wrote.others t h (λ low high. apart (omega (arith, low, same t)) (omega (arith, high, same t)));
+  reads_same = wrote.reads_same;
+}
 
 -- what all got is what the first got and what those behind it got
 pub outs-among : {S : Type 0} (tells : Bool) (contents : S → Contents) (read_faults : S → ℕ) (outs : List Outlet)
@@ -133,21 +147,20 @@ pub outs-among : {S : Type 0} (tells : Bool) (contents : S → Contents) (read_f
 outs-among tells contents read_faults outs o os at mid next e among behind first putss st =
     let split = outs-split tells contents first outs o os at putss e st in
     among-both tells contents read_faults first (length os) (length outs) at mid next (omega (arith, ap length e))
-    (subst (λ (h : ℕ). WroteAmong tells contents read_faults h 1 at mid) split.handle
-    (among split.ps split.stands))
+    (among-at tells contents read_faults o.handle first at mid split.handle (among split.ps split.stands))
     (behind (first + 1) split.pss (outs-behind tells contents read_faults first o os at mid putss among split))
 
 -- the first was put something, and then those behind it
 pub outs-step : {S : Type 0} (tells : Bool) (contents : S → Contents) (read_faults : S → ℕ) (first count : ℕ)
     (o new : Outlet) (news : List Outlet) (more : List Put) (mores : List (List Put)) (mid next : S) →
-    new.handle ≡ o.handle → o.handle ≡ first → OutletStands tells contents new mid more →
+    new.handle ≡ o.handle → (IsTrue tells → o.handle ≡ first) → OutletStands tells contents new mid more →
     OutsStand tells contents (first + 1) news next mores →
     WroteAmong tells contents read_faults (first + 1) count mid next →
     OutsStand tells contents first (new ∷ news) next (more ∷ mores)
 outs-step tells contents read_faults first count o new news more mores mid next same handle stands behind among = (
-  same ∙ handle,
+  λ t. same ∙ handle t,
   outlet-kept tells contents read_faults (first + 1) count new more mid next
-      (λ low high. omega (arith, low, same, handle)) among stands,
+      (λ t low high. omega (arith, low, same, handle t)) among stands,
   behind,
 )
 
@@ -247,7 +260,7 @@ finish-step tells contents read_faults outs os o at mid next e step among behind
     let ended : OutsEnded tells contents first (o ∷ os) next (split.ps ∷ split.pss) = (
       λ t.
           later.others t first (λ low high. omega (arith, low))
-          ∙ (ap (contents mid).written (sym split.handle) ∙ step split.ps split.stands t),
+          ∙ (ap (contents mid).written (sym (split.handle t)) ∙ step split.ps split.stands t),
       rest (first + 1) split.pss tail,
     ) in
     subst (λ (pss : List (List Put)). OutsEnded tells contents first outs next pss) (sym split.whole)

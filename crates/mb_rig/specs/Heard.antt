@@ -4,6 +4,7 @@
 --   signs_heard h, heard_signs answer    the mark of what is heard, if it is one; of an answer
 --   BeganAs step h             what is heard is a record that begins at the moment which the step tells
 --   HeardAt moment h           a record that begins tells this moment
+--   MomentKept was now h       the moment stays unless a record begins
 --   IfNothing answer P         P of an answer in which nothing is heard
 --   heard_fault answer         the fault that an answer tells
 use Rattle.std.specs.Prelude.{◌≡◌, ℕ, List, [], ◌∷◌, Option, Some, None, Result, Ok, Err}
@@ -41,6 +42,11 @@ abbrev pub HeardAt : (moment : ℕ) → Option Heard → Type 0
 HeardAt moment None = Unit {0}
 HeardAt moment (Some (heard.Record m)) = m ≡ moment
 HeardAt moment (Some (heard.Mark m)) = Unit {0}
+
+abbrev pub MomentKept : (was now : ℕ) → Option Heard → Type 0
+MomentKept was now None = now ≡ was
+MomentKept was now (Some (heard.Record m)) = Unit {0}
+MomentKept was now (Some (heard.Mark m)) = now ≡ was
 
 abbrev pub IfNothing : Result (Option Heard) TapeFault → Type 0 → Type 0
 IfNothing (Ok None) P = P

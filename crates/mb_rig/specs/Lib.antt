@@ -10,3 +10,10 @@ pub mod Link
 pub mod Outs
 pub mod Turn
 pub mod PassedOn
+pub mod Bay
+pub mod Feed
+pub mod Ending
+pub mod Running
+pub mod Opened
+pub mod RigRun
+pub mod Step

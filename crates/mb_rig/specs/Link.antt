@@ -6,9 +6,10 @@
 --   LinkHeard ..               what one step of hearing did
 --   LinkRests ..               all that the bytes make known was told
 --   TookFrom handle c d        bytes were taken off a handle, and nothing else of the desk changed
---   LinkStops ..               why it gives no more
-use Rattle.std.specs.Prelude.{◌≡◌, ℕ, ◌+◌, ◌^◌, ◌≤◌, Bool, true, false, not, List, [], ◌++◌, length, Option, Some, None}
-use Rattle.std.specs.Prelude.{IsTrue}
+--   StopsAt ..                 why it gives no more
+--   link_work l, link_owed l   more than what it may yet hear, for loops to end: unless its tape is over, and of any
+use Rattle.std.specs.Prelude.{◌≡◌, ℕ, ◌+◌, ◌*◌, ◌-◌, ◌^◌, ◌≤◌, Bool, true, false, not, if◌then◌else◌, List, []}
+use Rattle.std.specs.Prelude.{◌++◌, length, Option, Some, None, IsTrue}
 use Rattle.mb_message.specs.Front.{IsFront}
 use Rattle.mb_stream.specs.Puts.{Put}
 use Rattle.mb_outside.specs.Cause.{Rose}
@@ -16,7 +17,7 @@ use Rattle.mb_outside.specs.Contents.{Contents, after_read}
 use Rattle.mb_frames.specs.Tapes.{tape_fault}
 use Rattle.mb_frames.specs.declared.tape.TapeFault.{TapeFault}
 use Rattle.mb_track.specs.Track.{track_marks, track_marks_so_far, track_whole}
-use Rattle.mb_track.specs.TrackReading.{TrackStands, TrackTold, track_of, track_offset, track_spec}
+use Rattle.mb_track.specs.TrackReading.{TrackStands, TrackTold, track_of, track_offset, track_owed, track_spec}
 use Rattle.mb_rig.specs.Supply.{IsLent, front_of}
 use Rattle.mb_rig.specs.declared.link.Link.{Link}
 use Rattle.mb_rig.specs.declared.link.LinkStop.{LinkStop}
@@ -63,3 +64,9 @@ StopsAt was now limit tape stop.ReadFault = Rose was now
 StopsAt was now limit tape stop.TooLong = (length tape ≡ limit) × (tape_fault tape ≡ None) × (now ≡ was)
 StopsAt was now limit tape (stop.BadTape f) =
     ((bytes : List ℕ) × IsFront bytes tape × (tape_fault bytes ≡ Some f)) × (now ≡ was)
+
+abbrev pub link_work : Link → ℕ
+link_work l = 16 * (l.supply.limit - l.supply.count) + (8 * length l.supply.ahead + track_owed l.reader)
+
+abbrev pub link_owed : Link → ℕ
+link_owed l = if l.over then 0 else 1 + link_work l

@@ -1,10 +1,9 @@
 -- The outs of a rig, whose handles are one behind the other.
 --
---   put_where goes put puts     a list behind a put, if it is put there
 --   pass_puts goes put putss    what each out was put behind one that goes to some of them
 --   flush_puts putss           what each out was put, and a flush behind it
 --   SuitsWhere, AllSuit         a mark suits each out that it goes to
---   OutsStand ..                the first out has this handle, and each was put its list
+--   OutsStand ..                the first out has this handle, if the desk tells, and each was put its list
 --   OutsEnded ..                each handle has all that its out's list is written as
 --   WroteAmong first count ..   some of these handles were written to, and nothing else of the desk changed
 use Rattle.std.specs.Prelude.{◌≡◌, ℕ, ◌+◌, ◌<◌, ◌≤◌, Bool, true, false, List, [], ◌∷◌, ◌++◌, IsTrue}
@@ -15,11 +14,8 @@ use Rattle.mb_outside.specs.Contents.{Contents}
 use Rattle.mb_carrier.specs.Carrier.{written}
 use Rattle.mb_carrier.specs.Port.{writer_in_sysex}
 use Rattle.mb_rig.specs.Outlet.{OutletStands, outlet_spec}
+use Rattle.mb_rig.specs.Merging.Ended.{put_where}
 use Rattle.mb_rig.specs.declared.outlet.Outlet.{Outlet}
-
-abbrev pub put_where : Bool → Put → List Put → List Put
-put_where true put puts = puts ++ put ∷ []
-put_where false put puts = puts
 
 abbrev pub pass_puts : (goes : List Bool) → Put → List (List Put) → List (List Put)
 pass_puts goes put [] = []
@@ -44,7 +40,8 @@ OutsStand tells contents first [] at [] = Unit {0}
 OutsStand tells contents first [] at (ps ∷ pss) = ⊥
 OutsStand tells contents first (o ∷ os) at [] = ⊥
 OutsStand tells contents first (o ∷ os) at (ps ∷ pss) =
-    (o.handle ≡ first) × OutletStands tells contents o at ps × OutsStand tells contents (first + 1) os at pss
+    (IsTrue tells → o.handle ≡ first) × OutletStands tells contents o at ps
+    × OutsStand tells contents (first + 1) os at pss
 
 -- each out's handle has all that its list is written as
 abbrev pub OutsEnded : {S : Type 0} → Bool → (S → Contents) → (first : ℕ) → List Outlet → S → List (List Put) → Type 0

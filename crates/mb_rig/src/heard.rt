@@ -1,13 +1,14 @@
 //! What a link hears of its tape, byte by byte.
 
-ghost use Rattle.std.specs.Prelude.{◌≡◌, ℕ, ◌+◌, ◌≤◌, ◌^◌, List, [], ◌++◌, length, Ok, Some, None, IfOk};
+ghost use Rattle.std.specs.Prelude.{◌≡◌, ℕ, ◌+◌, ◌*◌, ◌<◌, ◌≤◌, ◌^◌, List, [], ◌++◌, length, Ok, Some, None};
+ghost use Rattle.std.specs.Prelude.{IfOk, OnSome};
 ghost use Rattle.mb_stream.specs.Puts.{Put};
 ghost use Rattle.mb_frames.specs.Tapes.{tape_fault};
 ghost use Rattle.mb_message.specs.Signs.{signs_of_event};
 ghost use Rattle.mb_track.specs.Track.{track_marks_so_far};
-ghost use Rattle.mb_track.specs.TrackReading.{TrackGoes, TrackStands, TrackTold, signs_told, track_moment, track_of};
-ghost use Rattle.mb_track.specs.TrackReading.{track_offset, track_spec};
-ghost use Rattle.mb_rig.specs.Heard.{BeganAs, HeardAt, IfNothing, byte_in, heard_fault, heard_signs};
+ghost use Rattle.mb_track.specs.TrackReading.{MomentStays, TrackGoes, TrackStands, TrackTold, signs_told};
+ghost use Rattle.mb_track.specs.TrackReading.{track_moment, track_of, track_offset, track_owed, track_spec};
+ghost use Rattle.mb_rig.specs.Heard.{BeganAs, HeardAt, IfNothing, MomentKept, byte_in, heard_fault, heard_signs};
 ghost use Rattle.mb_rig.specs.Heard.{mark_signs, signs_heard};
 
 use mb_frames::TapeFault;
@@ -32,6 +33,9 @@ pub(crate) fn hear(reader: &mut TrackReader, input: &mut &[u8]) -> Result<Option
     ensures track { track_of reader.new ≡ track_of reader.old }
     ensures end { track_offset reader.new + length input.new.now ≤ track_offset reader.old + length input.old.now }
     ensures begins { IfOk result (λ heard. HeardAt (track_moment reader.new) heard) }
+    ensures moment { IfOk result (λ heard. MomentKept (track_moment reader.old) (track_moment reader.new) heard) }
+    ensures rises { (taken : List ℕ) (told : List Put) → TrackStands reader.old taken input.old.now told →
+        track_moment reader.old ≤ track_moment reader.new }
     ensures goes { TrackGoes reader.old reader.new input.old.now input.new.now (heard_signs result) }
     ensures over { IfNothing result ((taken : List ℕ) (told : List Put) →
         TrackStands reader.old taken input.old.now told →
@@ -40,6 +44,8 @@ pub(crate) fn hear(reader: &mut TrackReader, input: &mut &[u8]) -> Result<Option
         × (tape_fault (taken ++ input.old.now) ≡ heard_fault result)) }
     ensures none { result ≡ Ok None → input.new.now ≡ [] }
     ensures fewer { length input.new.now ≤ length input.old.now }
+    ensures progress { IfOk result (λ heard. OnSome heard (8 * length input.new.now + track_owed reader.new <
+        8 * length input.old.now + track_owed reader.old)) }
 {
     'steps: loop {
         match reader.next(input) {
@@ -59,6 +65,7 @@ fn heard_of(step: TrackStep<'_>) -> Option<Heard>
     requires { length (signs_told (Some step)) ≤ 1 }
     ensures signs { signs_heard result ≡ signs_told (Some step.entry) }
     ensures began { BeganAs step.entry result }
+    ensures moment { (was now : ℕ) → MomentStays was now (Ok (Some step.entry)) → MomentKept was now result }
 {
     match step {
         TrackStep::Begin { moment } => Some(Heard::Record { moment }),

@@ -2,7 +2,11 @@
 //! joins yet.
 #![tactic(auto)]
 
+mod bay;
+mod draft;
+mod ending;
 mod fault;
+mod feed;
 mod files;
 mod heard;
 mod line;
@@ -13,6 +17,8 @@ mod outs;
 mod passing;
 mod report;
 mod rig;
+mod run;
+mod steps;
 mod supply;
 mod turn;
 

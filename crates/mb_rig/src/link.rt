@@ -1,16 +1,17 @@
 //! A link of a rig: a tape, and what its port hears on a track of it.
 
-ghost use Rattle.std.specs.Prelude.{◌≡◌, ℕ, ◌+◌, ◌^◌, ◌≤◌, true, false, not, List, [], ◌++◌, length, IsTrue, Ok, None};
-ghost use Rattle.std.specs.Prelude.{IfOk, IfErr, OnOk};
+ghost use Rattle.std.specs.Prelude.{◌≡◌, ℕ, ◌+◌, ◌*◌, ◌^◌, ◌<◌, ◌≤◌, true, false, not, List, [], ◌++◌, length};
+ghost use Rattle.std.specs.Prelude.{IsTrue, Ok, None, IfOk, IfErr, OnOk, OnSome};
 ghost use Rattle.mb_message.specs.Signs.{Sign};
 ghost use Rattle.mb_stream.specs.Puts.{Put, puts_at};
 ghost use Rattle.mb_outside.specs.Contents.{is_readable};
 ghost use Rattle.mb_carrier.specs.Word.{IsSpec};
 ghost use Rattle.mb_track.specs.Track.{track_end, track_whole};
-ghost use Rattle.mb_track.specs.TrackReading.{TrackTold, track_moment, track_of, track_spec};
-ghost use Rattle.mb_rig.specs.Heard.{HeardAt, IfNothing, heard_fault, heard_signs, signs_heard};
+ghost use Rattle.mb_track.specs.TrackReading.{TrackTold, track_moment, track_of, track_owed, track_spec};
+ghost use Rattle.mb_rig.specs.Heard.{HeardAt, IfNothing, MomentKept, heard_fault, heard_signs, signs_heard};
 ghost use Rattle.mb_rig.specs.Supply.{front_of};
 ghost use Rattle.mb_rig.specs.Link.{LinkEnds, LinkHeard, LinkReads, LinkRests, LinkStands, StopsAt, TookFrom};
+ghost use Rattle.mb_rig.specs.Link.{link_owed};
 
 use crate::heard::{Heard, hear, mark_of};
 use crate::supply::{Dry, Supply};
@@ -69,6 +70,11 @@ impl Link {
         ensures spec { track_spec self.new.reader ≡ track_spec self.old.reader }
         ensures track { track_of self.new.reader ≡ track_of self.old.reader }
         ensures begins { IfOk result (λ heard. HeardAt (track_moment self.new.reader) heard) }
+        ensures moment { IfOk result (λ heard. MomentKept (track_moment self.old.reader)
+            (track_moment self.new.reader) heard) }
+        ensures rises { (told : List Put) → LinkStands D.tells D.contents self.old desk.old told →
+            track_moment self.old.reader ≤ track_moment self.new.reader }
+        ensures progress { IfOk result (λ heard. OnSome heard (link_owed self.new < link_owed self.old)) }
         ensures over { result ≡ Ok None → self.new.over ≡ true }
         ensures told { IfOk result (λ heard. (told : List Put) →
             LinkStands D.tells D.contents self.old desk.old told → LinkStands D.tells D.contents self.new desk.new
@@ -112,6 +118,13 @@ impl Link {
         ensures spec { track_spec self.new.reader ≡ track_spec self.old.reader }
         ensures track { track_of self.new.reader ≡ track_of self.old.reader }
         ensures begins { IfOk result (λ heard. HeardAt (track_moment self.new.reader) heard) }
+        ensures moment { IfOk result (λ heard. MomentKept (track_moment self.old.reader)
+            (track_moment self.new.reader) heard) }
+        ensures rises { (bytes : List ℕ) (told : List Put) → LinkReads self.old bytes told →
+            track_moment self.old.reader ≤ track_moment self.new.reader }
+        ensures progress { IfOk result (λ heard. OnSome heard
+            (8 * length self.new.supply.ahead + track_owed self.new.reader <
+            8 * length self.old.supply.ahead + track_owed self.old.reader)) }
         ensures goes { (bytes : List ℕ) (told : List Put) → LinkReads self.old bytes told →
             LinkHeard self.old self.new bytes (told ++ puts_at (track_moment self.new.reader) (heard_signs result)) }
         ensures rests { IfNothing result ((bytes : List ℕ) (told : List Put) → LinkReads self.old bytes told →

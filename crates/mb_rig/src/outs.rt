@@ -8,7 +8,8 @@ ghost use Rattle.mb_outside.specs.Contents.{is_writable};
 ghost use Rattle.mb_carrier.specs.Carrier.{written};
 ghost use Rattle.mb_rig.specs.Outlet.{OutletStands, outlet_spec};
 ghost use Rattle.mb_rig.specs.Outs.{AllSuit, OutsEnded, OutsStand, SuitsWhere, WroteAmong, flush_puts};
-ghost use Rattle.mb_rig.specs.Outs.{pass_puts, put_where};
+ghost use Rattle.mb_rig.specs.Outs.{pass_puts};
+ghost use Rattle.mb_rig.specs.Merging.Ended.{put_where};
 
 use crate::outlet::Outlet;
 use mb_message::Mark;

@@ -7,6 +7,7 @@ ghost use Rattle.mb_outside.specs.Cause.{HasCause};
 ghost use Rattle.mb_rig.specs.Outlet.{outlet_spec};
 ghost use Rattle.mb_rig.specs.Outs.{AllSuit, OutsStand, pass_puts};
 ghost use Rattle.mb_rig.specs.PassedOn.{PassedOn};
+ghost use Rattle.mb_rig.specs.Bay.{BayWrote};
 
 use crate::outlet::Outlet;
 use crate::outs::pass_on;
@@ -34,6 +35,9 @@ pub(crate) fn pass<D: Desk>(
     ensures passed { OnOk result ((first : ℕ) (putss : List (List Put)) →
         OutsStand D.tells D.contents first outs.old desk.old putss →
         PassedOn D.tells D.contents D.read_faults first (length outs.old) moment passed desk.old desk.new) }
+    ensures wrote { (first : ℕ) (putss : List (List Put)) → 3 ≤ first →
+        OutsStand D.tells D.contents first outs.old desk.old putss →
+        BayWrote D.tells D.contents first (length outs.old) desk.old desk.new }
     ensures cause { HasCause (D.write_faults desk.old) (D.write_faults desk.new) result }
     ensures sound { OnOk result (D.write_faults desk.new ≡ D.write_faults desk.old) }
     ensures read_faults { D.read_faults desk.new ≡ D.read_faults desk.old }

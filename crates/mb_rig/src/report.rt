@@ -4,7 +4,9 @@ ghost use Rattle.std.specs.Prelude.{◌≡◌, ℕ, List, OnOk, OnErr};
 ghost use Rattle.mb_message.specs.Front.{IsPart};
 ghost use Rattle.mb_outside.specs.Cause.{HasCause};
 ghost use Rattle.mb_outside.specs.Taking.{Wrote};
-ghost use Rattle.mb_rig.specs.PassingLine.{kind_of, passing_text};
+ghost use Rattle.mb_message.specs.Signs.{sign_of};
+ghost use Rattle.mb_rig.specs.Merging.Report.{kind_of_sign};
+ghost use Rattle.mb_rig.specs.PassingLine.{passing_text};
 
 use mb_merge::Passed;
 use mb_message::Mark;
@@ -44,7 +46,7 @@ pub(crate) fn tell_passing<D: Desk>(
 
 /// What a mark completes.
 fn kind_of(mark: Mark) -> Option<Kind>
-    ensures { result ≡ kind_of mark }
+    ensures { result ≡ kind_of_sign (sign_of mark) }
 {
     match mark {
         Mark::Short(_) => Some(Kind::M),

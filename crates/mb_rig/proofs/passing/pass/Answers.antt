@@ -1,6 +1,8 @@
 use Rattle.std.proofs.Common.{arith}
 use Rattle.std.proofs.lemmas.Result.{on_ok_weaker}
 use Rattle.mb_rig.proofs.OutsLemmas.{among-one, outs-kept}
+use Rattle.mb_rig.proofs.FrameLemmas.{bay-among, bay-report, bay-then, wrote-some}
+use Rattle.mb_rig.specs.PassingLine.{passing_text}
 use Rattle.mb_rig.proofs.passing.pass.Goals as goal
 
 pub returns-clause-stand : goal.returns-clause-stand
@@ -8,7 +10,7 @@ returns-clause-stand g c =
     let D = g.D.Desk in
     on_ok_weaker c.tell_passing.result (λ wrote first putss low st.
     outs-kept D.tells D.contents D.read_faults 1 1 first _ _ c.pass_on.new.desk c.tell_passing.new.desk
-    (omega (arith, low)) (among-one D.tells D.contents D.read_faults 1 _ _ _ wrote)
+    (λ t. omega (arith, low)) (among-one D.tells D.contents D.read_faults 1 _ _ _ wrote)
     (c.in_default.ensures.stand first putss st)) c.tell_passing.ensures.told
 
 pub returns-clause-passed : goal.returns-clause-passed
@@ -17,3 +19,20 @@ returns-clause-passed g c = on_ok_weaker c.tell_passing.result (λ wrote first p
   outs = c.pass_on.ensures.among first putss st;
   line = wrote;
 }) c.tell_passing.ensures.told
+
+pub returns-in-Err-clause-wrote : goal.returns-in-Err-clause-wrote
+returns-in-Err-clause-wrote g c = λ first putss low st.
+    let D = g.D.Desk in
+    bay-among D.tells D.contents D.read_faults first _ c.args.desk.now c.pass_on.new.desk
+    (c.pass_on.ensures.among first putss st)
+
+pub returns-clause-wrote : goal.returns-clause-wrote
+returns-clause-wrote g c = λ first putss low st.
+    let D = g.D.Desk in
+    let some = wrote-some D.tells D.contents D.read_faults c.pass_on.new.desk c.tell_passing.new.desk
+    (passing_text c.args.moment c.args.passed) c.tell_passing.result c.tell_passing.ensures.told
+    c.tell_passing.ensures.part in
+    bay-then D.tells D.contents first _ c.args.desk.now c.pass_on.new.desk c.tell_passing.new.desk
+    (bay-among D.tells D.contents D.read_faults first _ c.args.desk.now c.pass_on.new.desk
+    (c.pass_on.ensures.among first putss st))
+    (bay-report D.tells D.contents D.read_faults first _ some.0 c.pass_on.new.desk c.tell_passing.new.desk some.1)

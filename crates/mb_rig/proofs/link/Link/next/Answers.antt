@@ -1,4 +1,6 @@
-use Rattle.std.proofs.Common.{◌≡◌, ◌++◌, List, [], ℕ, Ok, Some, refl, sym, ◌∙◌, ap, subst, length}
+use Rattle.std.proofs.Common.{◌≡◌, ◌++◌, List, [], ℕ, Ok, Some, None, refl, sym, ◌∙◌, ap, subst, length}
+use Rattle.std.proofs.Common.{arith}
+use Rattle.std.proofs.lemmas.Bool.{true≢false}
 use Rattle.mb_message.specs.Signs.{Sign}
 use Rattle.mb_message.specs.Front.{IsFront}
 use Rattle.mb_stream.specs.Puts.{puts_at}
@@ -9,7 +11,9 @@ use Rattle.mb_rig.specs.Heard.{heard_signs, signs_heard}
 use Rattle.mb_rig.specs.Supply.{SupplyValue}
 use Rattle.mb_rig.specs.Link.{LinkStands}
 use Rattle.mb_rig.proofs.LinkLemmas.{drew-by, drew-took, link-ends, link-faulty, link-heard, link-quiet, link-read}
-use Rattle.mb_rig.proofs.LinkLemmas.{link-too_long, rests-none, took-none, took-then}
+use Rattle.mb_rig.proofs.LinkLemmas.{link-too_long, owed-ended, owed-heard, rests-none, took-none, took-then}
+use Rattle.mb_rig.proofs.LinkLemmas.{work-heard, work-passed, work-read}
+use Rattle.mb_rig.proofs.HeardLemmas.{moment-by, moment-still, on-some, some-falls}
 use Rattle.mb_rig.proofs.link.Link.next.Goals as goal
 
 pub bytes-init : goal.bytes-init
@@ -19,6 +23,8 @@ bytes-init g c = record {
   limit = refl;
   spec = refl;
   track = refl;
+  moment = refl;
+  less = omega arith;
   told = λ told st. st;
   took = λ t. took-none _ _ _ refl;
   reads = refl;
@@ -55,12 +61,23 @@ bytes-preserved-in-Ok-true g c =
     let D = g.D.Desk in
     let i = c.bytes.invariant in
     let e = c.in-Ok-None.is ∙ ap Ok c.in-Ok-None.field-0-is in
+    let more = c.in-Ok-true.ensures.more in
     record {
       reading = c.hear.ensures.still ∙ i.reading;
       handle = c.read_on.ensures.handle ∙ (c.hear.ensures.handle ∙ i.handle);
       limit = c.read_on.ensures.limit ∙ (c.hear.ensures.limit ∙ i.limit);
       spec = c.hear.ensures.spec ∙ i.spec;
       track = c.hear.ensures.track ∙ i.track;
+      moment =
+          moment-by _ (track_moment c.bytes.self.reader) (track_moment c.hear.new.self.reader) c.hear.result None e
+          i.moment c.hear.ensures.moment;
+      less =
+          omega (
+            arith,
+            i.less,
+            work-read c.bytes.self c.hear.new.self c.read_on.new.self c.hear.ensures.limit c.hear.ensures.count
+                c.read_on.ensures.limit c.read_on.ensures.count c.read_on.ensures.within (more.0 c.in-Ok-true.field-0-test),
+          );
       told = λ told st.
           link-read D.tells D.contents c.hear.new.self _ c.bytes.desk c.read_on.new.desk told
           (c.hear.ensures.still ∙ i.reading) refl refl c.read_on.ensures.handle c.read_on.ensures.limit
@@ -87,6 +104,16 @@ bytes-preserved g c =
       limit = c.hear.ensures.limit ∙ i.limit;
       spec = c.hear.ensures.spec ∙ i.spec;
       track = c.hear.ensures.track ∙ i.track;
+      moment =
+          moment-by _ (track_moment c.bytes.self.reader) (track_moment c.hear.new.self.reader) c.hear.result None e
+          i.moment c.hear.ensures.moment;
+      less =
+          omega (
+            arith,
+            i.less,
+            work-passed c.bytes.self c.hear.new.self c.hear.ensures.limit c.hear.ensures.count (c.hear.ensures.used e)
+                (λ none. true≢false (sym (c.is_used.ensures.1 none) ∙ c.if-is_used.false)),
+          );
       told = λ told st.
           link-quiet D.tells D.contents c.bytes.self c.hear.new.self c.bytes.desk told c.hear.result _
           (ap heard_signs e) i.reading c.hear.ensures.still c.hear.ensures.handle c.hear.ensures.limit
@@ -138,4 +165,73 @@ returns-in-Err-TooLong-clause-stops g c = λ told st t.
       ap (λ (z : Contents). tape_fault (z.taken handle)) same
           ∙ (ap (λ (h : ℕ). tape_fault ((D.contents c.bytes.desk).taken h)) (sym i.handle) ∙ p.1),
       dry.1 ∙ i.reads,
+    )
+
+pub returns-in-Ok-Some-clause-moment : goal.returns-in-Ok-Some-clause-moment
+returns-in-Ok-Some-clause-moment g c =
+    moment-by _ (track_moment c.bytes.self.reader) (track_moment c.hear.new.self.reader) c.hear.result _
+    (c.in-Ok-Some.is ∙ ap Ok c.in-Ok-Some.field-0-is) c.bytes.invariant.moment c.hear.ensures.moment
+
+pub returns-in-Ok-Some-clause-rises : goal.returns-in-Ok-Some-clause-rises
+returns-in-Ok-Some-clause-rises g c = λ told st.
+    let now = c.bytes.invariant.told told st in
+    omega (
+      arith,
+      c.bytes.invariant.moment,
+      c.hear.ensures.rises now.bytes told (now.reads c.bytes.invariant.reading),
+    )
+
+pub returns-in-Ok-Some-clause-progress : goal.returns-in-Ok-Some-clause-progress
+returns-in-Ok-Some-clause-progress g c =
+    let i = c.bytes.invariant in
+    let l = c.bytes.self in
+    let m = c.hear.new.self in
+    let less = some-falls c.hear.result _ _ (c.in-Ok-Some.is ∙ ap Ok c.in-Ok-Some.field-0-is)
+    c.hear.ensures.progress in
+    owed-heard c.args.self.now m c.if-self.false (c.hear.ensures.still ∙ i.reading)
+    (omega (arith, i.less, work-heard l m c.hear.ensures.limit c.hear.ensures.count less))
+
+pub returns-in-Err-clause-rises : goal.returns-in-Err-clause-rises
+returns-in-Err-clause-rises g c = λ told st.
+    let now = c.bytes.invariant.told told st in
+    omega (
+      arith,
+      c.bytes.invariant.moment,
+      c.hear.ensures.rises now.bytes told (now.reads c.bytes.invariant.reading),
+    )
+
+pub returns-in-Ok-false-clause-moment : goal.returns-in-Ok-false-clause-moment
+returns-in-Ok-false-clause-moment g c =
+    moment-still _ _ c.end.result
+    (c.end.ensures.moment
+    ∙ moment-by _ (track_moment c.bytes.self.reader) (track_moment c.hear.new.self.reader) c.hear.result None
+    (c.in-Ok-None.is ∙ ap Ok c.in-Ok-None.field-0-is) c.bytes.invariant.moment c.hear.ensures.moment)
+
+pub returns-in-Ok-false-clause-rises : goal.returns-in-Ok-false-clause-rises
+returns-in-Ok-false-clause-rises g c = λ told st.
+    omega (
+      arith,
+      c.end.ensures.moment,
+      moment-by _ (track_moment c.bytes.self.reader) (track_moment c.hear.new.self.reader) c.hear.result None
+          (c.in-Ok-None.is ∙ ap Ok c.in-Ok-None.field-0-is) c.bytes.invariant.moment c.hear.ensures.moment,
+    )
+
+pub returns-in-Ok-false-clause-progress : goal.returns-in-Ok-false-clause-progress
+returns-in-Ok-false-clause-progress g c =
+    on-some c.end.result _ (owed-ended c.args.self.now c.end.new.self c.if-self.false c.end.ensures.over)
+
+pub returns-in-Err-ReadFault-clause-rises : goal.returns-in-Err-ReadFault-clause-rises
+returns-in-Err-ReadFault-clause-rises g c = λ told st.
+    omega (
+      arith,
+      moment-by _ (track_moment c.bytes.self.reader) (track_moment c.hear.new.self.reader) c.hear.result None
+          (c.in-Ok-None.is ∙ ap Ok c.in-Ok-None.field-0-is) c.bytes.invariant.moment c.hear.ensures.moment,
+    )
+
+pub returns-in-Err-TooLong-clause-rises : goal.returns-in-Err-TooLong-clause-rises
+returns-in-Err-TooLong-clause-rises g c = λ told st.
+    omega (
+      arith,
+      moment-by _ (track_moment c.bytes.self.reader) (track_moment c.hear.new.self.reader) c.hear.result None
+          (c.in-Ok-None.is ∙ ap Ok c.in-Ok-None.field-0-is) c.bytes.invariant.moment c.hear.ensures.moment,
     )

@@ -1,7 +1,7 @@
 use Rattle.std.proofs.Common.{◌≡◌, None, sym, subst, IfErr, OnOk}
 use Rattle.mb_rig.specs.RigText.{why_not, with_line}
 use Rattle.mb_rig.specs.RigAnswer.{line_seen, IsRefused}
-use Rattle.mb_rig.proofs.rig.Rig.add.Goals as goal
+use Rattle.mb_rig.proofs.draft.Draft.add.Goals as goal
 
 pub returns-in-Link-clause-fits : goal.returns-in-Link-clause-fits
 returns-in-Link-clause-fits c =

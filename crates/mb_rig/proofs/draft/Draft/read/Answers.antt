@@ -5,7 +5,7 @@ use Rattle.mb_rig.specs.RigAnswer.{line_seen}
 use Rattle.mb_rig.proofs.LineLemmas.{statement-printed}
 use Rattle.mb_rig.proofs.RigLemmas.{line-added, begun-added, line-refused, rig-begins, ended-refused}
 use Rattle.mb_rig.proofs.RightLemmas.{read-right}
-use Rattle.mb_rig.proofs.rig.Rig.read.Goals as goal
+use Rattle.mb_rig.proofs.draft.Draft.read.Goals as goal
 
 pub loop-line-init : goal.loop-line-init
 loop-line-init c = record {

@@ -2,7 +2,7 @@ use Rattle.std.proofs.Common.{◌≡◌, ◌+◌, ◌≤◌, length}
 use Rattle.mb_text.specs.Text.{lines}
 use Rattle.mb_rig.specs.RigText.{rig_from, rig_of}
 use Rattle.mb_rig.specs.RigAnswer.{Begun}
-use Rattle.mb_rig.proofs.rig.Rig.read.Given as goal
+use Rattle.mb_rig.proofs.draft.Draft.read.Given as goal
 
 abbrev pub invariant-loop-line : goal.invariant-loop-line
 invariant-loop-line l = record {
