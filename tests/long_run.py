@@ -20,7 +20,7 @@ import tempfile
 import inputs
 import plain
 
-COMMANDS = ["convert"] * 8 + ["check"] * 2 + ["trace"] * 4 + ["migrate", "record", "play", "guard"]
+COMMANDS = ["convert"] * 8 + ["check"] * 2 + ["trace"] * 4 + ["migrate", "record", "play", "guard"] * 2 + ["selftest"]
 
 
 def spec(rng):
@@ -41,6 +41,9 @@ def case(rng, only=None):
         found = inputs.recording(rng, first)
     elif command == "play":
         found = inputs.file(rng)
+    elif command == "selftest":
+        words += [str(rng.choice((0, 1, 2_147_483_647, rng.randrange(1 << 31)))), str(rng.choice((0, 1, 5, 40)))]
+        found = b""
     else:
         words += [first] if command != "migrate" else []
         found = inputs.tape(rng, first)

@@ -3,7 +3,8 @@
 
     tests/plain.py WORDS < RECORDING > RECORDING
 
-It knows convert, check, trace, migrate, record, play and guard. tests/long_run.py holds the program against it."""
+It knows convert, check, trace, migrate, record, play, guard and selftest. tests/long_run.py holds the program against
+it."""
 import sys
 
 DATA_LENGTHS = {0x8: 2, 0x9: 2, 0xA: 2, 0xB: 2, 0xC: 1, 0xD: 1, 0xE: 2}
@@ -753,6 +754,53 @@ def play(data, goes_on=False):
     return status, gathered(file.given, goes_on) if file.given or not goes_on else b"", text
 
 
+class Draws:
+    """The generator of the self-test."""
+
+    def __init__(self, start):
+        self.x, self.running = start, None
+
+    def below(self, bound):
+        self.x = (self.x * 1_103_515_245 + 12_345) % (1 << 31)
+        return self.x // 65_536 % bound
+
+    def data(self, count):
+        return [self.below(128) for _ in range(count)]
+
+    def unit(self):
+        kind = self.below(16)
+        if kind in (8, 9) and self.running is not None:
+            return self.data(data_length(self.running))
+        if kind < 10:
+            status = 0x80 + 16 * self.below(7)
+            self.running = status + self.below(16)
+            return [self.running] + self.data(data_length(self.running))
+        if kind < 12:
+            return [REAL_TIME[self.below(6)]]
+        self.running = None
+        if kind == 12:
+            status = [*COMMON_LENGTHS][self.below(4)]
+            return [status] + self.data(COMMON_LENGTHS[status])
+        count = self.below(64)
+        if kind == 15:
+            return [0xF0] + self.data(count)
+        return [0xF0] + [0xF8] * (count % 2) + self.data(count) + [0xF7]
+
+
+def selftest(words):
+    draws = Draws(int(words[0]))
+    made = bytes(byte for _ in range(int(words[1])) for byte in draws.unit())
+    crossed = through(["din", "usb:0", "ble", "fw:0", "din"], made)[0]
+    marks = [mark for mark, _ in puts_of(read_line(crossed[-1], [0] * len(crossed[-1]))[0])]
+    items = [sum(mark[0] == kind for mark in marks) for kind in ("short", "end", "abort", "rt")]
+    mix = 0
+    for byte in crossed[-1]:
+        mix = (mix * 31 + byte) % (1 << 32)
+    written = " ".join(str(len(it)) for it in crossed[1:])
+    lines = f"made {len(made)}\nwritten {written}\nitems {' '.join(map(str, items))}\nmix {mix:08x}\n"
+    return 0, lines.encode(), ""
+
+
 def answer(words, data):
     """The status, standard output and standard error of a command."""
     command, rest = words[0], words[1:]
@@ -760,7 +808,7 @@ def answer(words, data):
         return convert(rest, data)
     if command in ("check", "trace"):
         return listing(rest, data, command == "trace")
-    return {"migrate": lambda: migrate(data), "guard": lambda: guard(rest, data),
+    return {"migrate": lambda: migrate(data), "guard": lambda: guard(rest, data), "selftest": lambda: selftest(rest),
             "record": lambda: record(rest, data), "play": lambda: play(data)}[command]()
 
 

@@ -141,9 +141,7 @@ class Sweep:
 
     def check_whole(self):
         """The answer where no call fails."""
-        if self.words[0] == "selftest":
-            wanted = self.whole[0] == 0 and self.whole[1].count(b"\n") == 4 and self.whole[2] == ""
-        elif plain_knows(self.words):
+        if plain_knows(self.words):
             wanted = self.whole == plain.answer(self.words, self.found)
         else:
             wanted = self.whole[0] == 2 and self.whole[1] == b"" and self.whole[2].startswith("usage: ")
