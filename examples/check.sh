@@ -1,7 +1,7 @@
 #!/usr/bin/env bash
-# Holds the tables of this folder's README against the files and the built program: each file has the bytes that stand there, and
-# each becomes what stands there; and each command that the README above shows prints what stands below it. Run it after `make`;
-# another program is named by its first word.
+# Holds the tables of this folder's README against the files and the built program: each file has the bytes that stand
+# there, and each becomes what stands there; and each command that this README or the one above shows prints what stands
+# below it. Run it after `make`; another program is named by its first word.
 program=$(realpath "${1:-$(dirname "$0")/../midibridge}")
 cd "$(dirname "$0")" || exit 1
 [ -x "$program" ] || { echo "no $program: run make first"; exit 1; }
@@ -29,14 +29,17 @@ while IFS='|' read -r _ file bytes _ becomes _; do
   [ "$found" = "$wanted" ] || { echo "$file: it becomes $found"; wrong=1; }
 done < <(grep '^| `.*\.\(din\|usb\|fw\|ble\|mbt\)`' README.md)
 
-# The commands that README.md shows, each with the lines below it and what it says on standard error.
+# The commands that a page shows, each with the lines below it and what it says on standard error.
 shown=0
-while IFS= read -r command; do
-  shown=$((shown + 1))
-  wanted=$(awk -v command="\$ ${command//\\/\\\\}" '$0 == command { on = 1; next } /^[$]|^```/ { on = 0 } on' ../README.md)
-  found=$(cd .. && eval "${command//.\/midibridge/\"\$program\"}" 2>&1)
-  [ "$found" = "$wanted" ] || { echo "README.md, $command: it prints $found"; wrong=1; }
-done < <(sed -n 's/^[$] \(\(\.\/midibridge\|printf\|cat\|od\) .*\)/\1/p' ../README.md)
+for page in README.md examples/README.md; do
+  while IFS= read -r command; do
+    shown=$((shown + 1))
+    wanted=$(awk -v command="\$ ${command//\\/\\\\}" \
+      '$0 == command { on = 1; next } /^[$]|^```/ { on = 0 } on' ../$page)
+    found=$(cd .. && eval "${command//.\/midibridge/\"\$program\"}" 2>&1)
+    [ "$found" = "$wanted" ] || { echo "$page, $command: it prints $found"; wrong=1; }
+  done < <(sed -n 's/^[$] \(\(\.\/midibridge\|printf\|cat\|od\) .*\)/\1/p' ../$page)
+done
 
 [ "$rows" -gt 0 ] && [ "$shown" -gt 0 ] || { echo "no rows"; exit 1; }
 [ "$wrong" = 0 ] && echo "$rows examples and $shown commands are as they are shown"
