@@ -1,11 +1,13 @@
 -- What each answer says of a command that writes, also where it is stopped, all that the input so far gives.
-use Rattle.std.proofs.Common.{◌≡◌, ℕ, ◌<◌, ◌^◌, ◌↔◌, ◌&&◌, Bool, true, false, List, [], refl, sym, ◌∙◌, ap, subst, arith}
+use Rattle.std.proofs.Common.{◌≡◌, ℕ, ◌↔◌, ◌&&◌, Bool, true, false, List, [], refl, sym, ◌∙◌, ap, subst, arith}
 use Rattle.std.specs.Prelude.{Option, Some, None, IsSome}
 use Rattle.mb_message.specs.Front.{IsFront}
 use Rattle.mb_outside.specs.Contents.{Contents}
+use Rattle.mb_frames.specs.Frames.{AreBytes}
 use Rattle.mb_frames.specs.Tapes.{tape_fault, tape_whole}
 use Rattle.mb_guard.specs.Sounding.{sounding}
-use Rattle.mb_track.specs.Track.{last_record_moment, recording, track_records, track_whole}
+use Rattle.mb_track.specs.Track.{recording, track_records, track_whole}
+use Rattle.mb_track.proofs.MomentLemmas.{moments-fit}
 use Rattle.mb_rewrite.specs.Guarded.{ended}
 use Rattle.mb_rewrite.specs.Recorded.{track_den}
 use Rattle.mb_rewrite.proofs.CarriedLemmas.{guarded-read, guarded-read-silent}
@@ -279,12 +281,14 @@ shows-none c input w sound (fault.Rules f) e = e
 -- of a tape whose notes are ended
 
 pub notes-ended : (s : Spec) (left read written : List ℕ) (answer : ℕ) →
-    Carried (GuardingTape s) left read written answer → last_record_moment (track_records read) < 2 ^ 64 →
+    Carried (GuardingTape s) left read written answer → AreBytes read →
     track_den Din 0 written ≡ ended (track_den s 0 read)
-notes-ended s left read written answer r early = ap (track_den Din 0) r.written_is ∙ guarded-read s read early
+notes-ended s left read written answer r bytes =
+    ap (track_den Din 0) r.written_is ∙ guarded-read s read (moments-fit read bytes)
 
 pub notes-silent : (s : Spec) (left read written : List ℕ) (answer : ℕ) →
-    Carried (GuardingTape s) left read written answer → last_record_moment (track_records read) < 2 ^ 64 →
+    Carried (GuardingTape s) left read written answer → AreBytes read →
     (sounding (track_den Din 0 written).items) ≡ []
-notes-silent s left read written answer r early =
-    ap (λ (tape : List ℕ). (sounding (track_den Din 0 tape).items)) r.written_is ∙ guarded-read-silent s read early
+notes-silent s left read written answer r bytes =
+    ap (λ (tape : List ℕ). (sounding (track_den Din 0 tape).items)) r.written_is
+    ∙ guarded-read-silent s read (moments-fit read bytes)

@@ -1,16 +1,18 @@
 -- What each answer says of a tape that is filtered.
-use Rattle.std.proofs.Common.{◌≡◌, ◌⊎◌, ◌↔◌, ℕ, ◌<◌, ◌^◌, true, false, List, [], ◌++◌, length, refl, sym, ◌∙◌, ap, subst}
+use Rattle.std.proofs.Common.{◌≡◌, ◌⊎◌, ◌↔◌, ℕ, ◌<◌, true, false, List, [], ◌++◌, length, refl, sym, ◌∙◌, ap, subst}
 use Rattle.std.proofs.Common.{inl, inr, arith}
 use Rattle.std.specs.Prelude.{Ok, Err, IsSome}
 use Rattle.mb_message.specs.Front.{IsFront}
 use Rattle.mb_outside.specs.Contents.{Contents}
+use Rattle.mb_frames.specs.Frames.{AreBytes}
 use Rattle.mb_frames.specs.Gathering.{after_magic}
 use Rattle.mb_filter.specs.Mapped.{mapped}
 use Rattle.mb_filter.specs.Read.{rules_of}
 use Rattle.mb_filter.specs.declared.rule.Rule.{Rule}
 use Rattle.mb_filter.specs.declared.rules.RulesFault.{RulesFault}
 use Rattle.mb_stream.specs.Puts.{Put}
-use Rattle.mb_track.specs.Track.{last_record_moment, track_records, track_whole}
+use Rattle.mb_track.specs.Track.{track_whole}
+use Rattle.mb_track.proofs.MomentLemmas.{moments-fit}
 use Rattle.mb_rewrite.specs.Filtered.{filtered_marks}
 use Rattle.mb_rewrite.specs.LineTape.{line_ended, line_tape}
 use Rattle.mb_rewrite.specs.Recorded.{track_den}
@@ -135,10 +137,10 @@ none-filtered words limit before after faults faults_now answer file s m a why =
 
 -- it means what the rules make of the track
 pub filtered-meaning : (rules : List Rule) (s : Spec) (left read written : List ℕ) (answer : ℕ) →
-    Carried (FilteringTape rules s) left read written answer → last_record_moment (track_records read) < 2 ^ 64 →
+    Carried (FilteringTape rules s) left read written answer → AreBytes read →
     track_den Din 0 written ≡ mapped rules (track_den s 0 read)
-filtered-meaning rules s left read written answer r early =
-    ap (track_den Din 0) r.written_is ∙ filtered-read rules s read early
+filtered-meaning rules s left read written answer r bytes =
+    ap (track_den Din 0) r.written_is ∙ filtered-read rules s read (moments-fit read bytes)
 
 -- of a whole tape that no call failed on, it is 0, or the rules are refused
 pub filters-completes : (words : List (List ℕ)) (limit : ℕ) (before mid after : Contents)

@@ -144,6 +144,9 @@ last-of-parts last (Some r) (RecordByte b ∷ ps) = last-of-parts last (Some (wi
 last-of-parts last None (RecordEnd ∷ ps) = last-of-parts last None ps
 last-of-parts last (Some r) (RecordEnd ∷ ps) = last-of-parts r.moment None ps
 
+pub last-moment : (ps : List RecordPart) → last_record_moment (records_from None ps) ≡ last_begun 0 ps
+last-moment ps = last-is (records_from None ps) ∙ last-of-parts 0 None ps
+
 -- a record that begins behind what a reader told has no lower moment than the reader's
 pub begin-rises : (a r : TrackReader) (tape_now : TapeState) (i j k : List ℕ) (moment track len : ℕ) →
     QuietBehind a r i j → TapeTakes r.tape tape_now j k (RecordBegin moment track len ∷ []) →
@@ -159,6 +162,6 @@ begin-rises a r tape_now i j k moment track len quiet step = λ taken told st.
     (tape-rises (((taken ++ q.0) ++ t.0) ++ [])) in
     let last : r.moment ≡ last_begun 0 stands.parts
     = stands.moment_is ∙ (ap last_record_moment (sym (cut-all stands.parts stands.ended stands.under stands.cut))
-    ∙ (last-is (records_from None stands.parts) ∙ last-of-parts 0 None stands.parts)) in
+    ∙ last-moment stands.parts) in
     subst (λ (n : ℕ). n ≤ moment) (sym last)
     (rise-at 0 stands.parts moment track len (parts_from tape_now []) rise)

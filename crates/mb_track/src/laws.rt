@@ -1,12 +1,14 @@
 //! Laws of the definitions. Each function does nothing; what is proved is its contract.
 
-ghost use Rattle.std.specs.Prelude.{◌≡◌, ℕ, List, [], ◌++◌, true, false};
+ghost use Rattle.std.specs.Prelude.{◌≡◌, ℕ, ◌<◌, ◌^◌, List, [], ◌++◌, true, false};
 ghost use Rattle.mb_message.specs.Front.{IsFront};
 ghost use Rattle.mb_stream.specs.Puts.{Put, signs_in};
 ghost use Rattle.mb_stream.specs.Standing.{is_open, suited};
+ghost use Rattle.mb_frames.specs.Frames.{AreBytes};
 ghost use Rattle.mb_carrier.specs.Carrier.{marks_of, marks_so_far};
 ghost use Rattle.mb_carrier.specs.declared.spec.Spec.{Spec};
-ghost use Rattle.mb_track.specs.Track.{recording, track_end, track_marks, track_marks_so_far, track_records};
+ghost use Rattle.mb_track.specs.Track.{last_record_moment, recording, track_end, track_marks, track_marks_so_far};
+ghost use Rattle.mb_track.specs.Track.{track_records};
 ghost use Rattle.mb_track.specs.TrackReading.{TrackStands, track_of, track_spec};
 ghost use Rattle.mb_track.specs.declared.track.TrackReader.{TrackReader};
 
@@ -31,6 +33,11 @@ pub fn tracks_end()
         is_open (signs_in (track_marks s track tape)) ≡ false }
     ensures no_end { (s : Spec) (track : ℕ) (tape : List ℕ) → track_records tape ≡ [] →
         track_end s track tape ≡ [] }
+{}
+
+/// The last moment of a tape that is bytes fits in eight of them, where the tape is cut or has a fault too.
+pub fn moments_fit()
+    ensures { (tape : List ℕ) → AreBytes tape → last_record_moment (track_records tape) < 2 ^ 64 }
 {}
 
 /// What a reader told is a front of the marks of what it took and of what stands next, whatever that is.

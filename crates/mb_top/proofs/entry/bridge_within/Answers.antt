@@ -214,16 +214,16 @@ returns-clause-guarded g c = λ s tells m other.
     (returns-clause-contents g c tells)).written_is
 
 pub returns-clause-notes_ended : goal.returns-clause-notes_ended
-returns-clause-notes_ended g c = λ s tells m other early.
+returns-clause-notes_ended g c = λ s tells m other bytes.
     notes-ended s _ _ _ _
     (carried _ _ _ _ _ _ _ (GuardingTape s) refl m other
-    (returns-clause-contents g c tells)) early
+    (returns-clause-contents g c tells)) bytes
 
 pub returns-clause-silent : goal.returns-clause-silent
-returns-clause-silent g c = λ s tells m other early.
+returns-clause-silent g c = λ s tells m other bytes.
     notes-silent s _ _ _ _
     (carried _ _ _ _ _ _ _ (GuardingTape s) refl m other
-    (returns-clause-contents g c tells)) early
+    (returns-clause-contents g c tells)) bytes
 
 pub returns-clause-recorded : goal.returns-clause-recorded
 returns-clause-recorded g c = λ s tells m all.
@@ -370,9 +370,9 @@ returns-clause-filtered_means g c = λ file s tells m judged silent.
     let b = filter-did _ _ _ _ _ _ _ file s m judged silent a in (
       b.rules,
       b.got_them,
-      λ other early.
+      λ other bytes.
           filtered-meaning b.rules s _ _ _ _
-          (carried-task _ _ _ _ _ _ _ (FilteringTape b.rules s) (filter-writes-all b.rules s) other a b.holds) early,
+          (carried-task _ _ _ _ _ _ _ (FilteringTape b.rules s) (filter-writes-all b.rules s) other a b.holds) bytes,
     )
 
 pub returns-clause-filtered_fault : goal.returns-clause-filtered_fault
