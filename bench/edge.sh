@@ -48,7 +48,8 @@ refuse selftest 01 5
 refuse selftest 1 2 3
 refuse selftest 2147483648 1
 refuse selftest 1 1000001
-refuse run r.txt
+refuse run
+refuse run r.txt r.txt
 refuse convert usb:16 din
 refuse check
 refuse check din din

@@ -1,6 +1,6 @@
 # Completion of midibridge's words for bash.
 _midibridge() {
-  local commands="convert check trace migrate record play guard filter selftest"
+  local commands="convert check trace migrate record play guard filter run selftest"
   local specs="din ble ble/" number
   for number in {0..15}; do specs+=" usb:$number"; done
   for number in {0..63}; do specs+=" fw:$number"; done
@@ -14,7 +14,7 @@ _midibridge() {
     1:*) offered=$commands ;;
     2:convert) offered="tally $specs" ;;
     2:check | 2:trace | 2:record | 2:guard | 3:filter | *:convert) offered=$specs ;;
-    2:filter) compopt -o default ;; # bash offers files where nothing else is
+    2:filter | 2:run) compopt -o default ;; # bash offers files where nothing else is
   esac
   mapfile -t COMPREPLY < <(compgen -W "$offered" -- "$current")
   [[ ${COMPREPLY[*]} == ble/ ]] && compopt -o nospace

@@ -22,6 +22,7 @@ while IFS='|' read -r _ file bytes _ becomes _; do
     *.din) words="convert din usb:0" ;;
     *.fw) words="convert fw:0 din" ;;
     *.ble) words="convert ble din" ;;
+    dump.mbt | drums.mbt) words="migrate" ;;
     *.mbt) words="filter ${file%.mbt}.rules din" ;;
     *) words="convert usb:0 din" ;;
   esac
@@ -40,6 +41,9 @@ for page in README.md examples/README.md; do
     [ "$found" = "$wanted" ] || { echo "$page, $command: it prints $found"; wrong=1; }
   done < <(sed -n 's/^[$] \(\(\.\/midibridge\|printf\|cat\|od\) .*\)/\1/p' ../$page)
 done
+
+# what `run` of README.md above writes
+rm -f ../merged.din
 
 [ "$rows" -gt 0 ] && [ "$shown" -gt 0 ] || { echo "no rows"; exit 1; }
 [ "$wrong" = 0 ] && echo "$rows examples and $shown commands are as they are shown"

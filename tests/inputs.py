@@ -168,8 +168,11 @@ def recording(rng, word):
     return spoilt(rng, MAKERS[word[:3].rstrip(":")](rng))
 
 
-def tape(rng, word):
-    """A tape whose track 0 is a recording for a reader of this spec."""
+STEPS = (0, 0, 1, 3, 999, 1000, 1001, 50_000, 10**8)
+
+
+def tape(rng, word, steps=STEPS):
+    """A tape whose track 0 is a recording for a reader of this spec, and whose moments rise by these steps."""
     is_first, moment, found = rng.random() < 0.3, rng.randrange(10_000), bytearray()
     tracks = [0] if is_first or rng.random() < 0.6 else [0, 0, 1, 255]
     left = {0: recording(rng, word), 1: line(rng), 255: b""}
@@ -182,7 +185,7 @@ def tape(rng, word):
                 content = bytes([0xFE])
             else:
                 break
-        moment += rng.choice((0, 0, 1, 3, 999, 1000, 1001, 50_000, 10**8))
+        moment += rng.choice(steps)
         if rng.random() < 0.01:
             moment = rng.choice((0, 1 << 40, 18_446_744_073_709_551, 18_446_744_073_709_552, (1 << 64) - 1))
         found += min(moment, (1 << 64) - 1).to_bytes(8, "big") + (b"" if is_first else bytes([track]))

@@ -513,15 +513,23 @@ def migrate(data):
     return status, written, text
 
 
+def track_marks(tape, word, track):
+    """The marks of a track, each with the number of the record with which it becomes known, those that only the tape's
+    end makes known, and whether all is whole."""
+    numbers = [number for number, (_, of, _, content) in enumerate(tape.records) if of == track for _ in content]
+    recording = b"".join(content for _, of, _, content in tape.records if of == track)
+    told, whole, _ = spec(word)[0](recording, numbers)
+    marks = [(where, thing) for where, _, thing in told if not isinstance(thing, Note)]
+    known = [(numbers[where[0]], mark) for where, mark in marks if where < END]
+    return known, [mark for where, mark in marks if where >= END], whole and tape.whole
+
+
 def track_puts(tape, word):
     """The marks of track 0, each at the moment of the record with which it becomes known, apart from these what only
     the tape's end makes known; and whether all is whole."""
-    recording = b"".join(content for _, track, _, content in tape.records if track == 0)
-    moments = [moment for moment, track, _, content in tape.records if track == 0 for _ in content]
-    told, whole, _ = spec(word)[0](recording, moments)
-    marks = [(where, thing) for where, _, thing in told if not isinstance(thing, Note)]
-    puts = [(mark, moments[where[0]]) for where, mark in marks if where < END]
-    return puts, [(mark, tape.last_moment()) for where, mark in marks if where >= END], whole and tape.whole
+    known, ending, whole = track_marks(tape, word, 0)
+    puts = [(mark, tape.records[number][0]) for number, mark in known]
+    return puts, [(mark, tape.last_moment()) for mark in ending], whole
 
 
 def gathered(written, goes_on=False):

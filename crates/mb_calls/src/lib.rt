@@ -43,6 +43,8 @@ mod recording;
 #[cfg(test)]
 mod rig;
 #[cfg(test)]
+mod rig_run;
+#[cfg(test)]
 mod smf;
 #[cfg(test)]
 mod tapes;

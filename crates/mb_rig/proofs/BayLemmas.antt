@@ -9,13 +9,14 @@ use Rattle.std.proofs.lemmas.List.FromFn.{get_or-map-range_with_len, length-map-
 use Rattle.std.proofs.lemmas.Bool.Decides.{nat_tests}
 use Rattle.arrayvec.specs.ArrayVec.{ArrayVec, with_items}
 use Rattle.arrayvec.proofs.ArrayVecLemmas.{items-with_items}
+use Rattle.mb_message.specs.Front.{IsFront}
 use Rattle.mb_message.specs.declared.mark.Mark.{Mark}
 use Rattle.mb_message.specs.Signs.{Sign, sign_of, suits_sign}
 use Rattle.mb_stream.specs.Puts.{Put, At, Flush, signs_in}
 use Rattle.mb_stream.specs.Standing.{is_open}
 use Rattle.mb_outside.specs.Contents.{Contents}
 use Rattle.mb_outside.specs.Taking.{Wrote}
-use Rattle.mb_carrier.specs.Carrier.{written}
+use Rattle.mb_carrier.specs.Carrier.{live, written}
 use Rattle.mb_carrier.specs.Port.{writer_in_sysex}
 use Rattle.mb_carrier.proofs.PortLemmas.{open-by}
 use Rattle.mb_merge.specs.declared.router.Passed.{Passed}
@@ -36,17 +37,18 @@ use Rattle.mb_rig.specs.Merging.Playing.{PassedTag, Play, report_of, takes}
 use Rattle.mb_rig.specs.Merging.Ended.{put_where, puts_to}
 use Rattle.mb_rig.specs.Merging.Course.{Course, Links, at_link, freed, gives, next_tag, stalls, start_of}
 use Rattle.mb_rig.specs.Merging.Passes.{Passes, PassesOn}
-use Rattle.mb_rig.specs.Bay.{AreHanded, BayEnds, BayGoes, BayStands, BayWrote, HasRoom, KeepRoom, OffersOf, OutHas}
+use Rattle.mb_rig.specs.Bay.{AreHanded, BayBroke, BayEnds, BayGoes, BayStands, BayWrote, HasRoom, KeepRoom, OffersOf, OutHas}
 use Rattle.mb_rig.specs.Bay.{MayHand, is_stalled, marks_put, turn_key}
 use Rattle.mb_rig.proofs.Merging.Given.{elsewhere, here-same}
 use Rattle.mb_rig.proofs.Merging.Lateness.{none≢some, same_or_not, some_same}
-use Rattle.mb_rig.proofs.Merging.Reached.{reached-outs, reached-sources}
+use Rattle.mb_rig.proofs.Merging.Reached.{reached-fits, reached-outs, reached-sources}
+use Rattle.mb_rig.proofs.Merging.CourseMarks.{no-offer}
 use Rattle.mb_rig.proofs.Merging.CourseKnows.{passes-suits}
 use Rattle.mb_rig.proofs.Merging.CourseNext.{course-next}
 use Rattle.mb_rig.proofs.Merging.CourseSteps.{course-stalls}
 use Rattle.mb_rig.proofs.Merging.CourseTakes.{course-takes}
 use Rattle.mb_rig.proofs.Merging.PassesTold.{passes-put, passes-told}
-use Rattle.mb_rig.proofs.Merging.RoomLemmas.{next-none, next-offers, offers-own, offers-some, reached-few, room-next}
+use Rattle.mb_rig.proofs.Merging.RoomLemmas.{next-idle, next-none, next-offers, offers-own, offers-some, reached-few, room-next}
 use Rattle.mb_rig.proofs.Merging.RoomLemmas.{room-offer}
 
 -- flushes aside
@@ -698,3 +700,121 @@ pub room-ok : {T E : Type 0} (r : Result T E) (a : T) (room : Bool) → r ≡ Ok
     room ≡ true
 room-ok r a true is iff = refl
 room-ok r a false is iff = absurd (false≢true (subst IsErr is (iff.1 refl)))
+
+-- a write fails as a mark passes
+
+grown-part : (before told front line : List ℕ) (was now text : List ℕ) → was ≡ before ++ told → now ≡ was ++ front →
+    IsFront front line → text ≡ told ++ line →
+    (part : List ℕ) × IsFront part text × (now ≡ before ++ part)
+grown-part before told front line was now text is grows part all = (
+  told ++ front,
+  (part.0, all ∙ (ap (λ (xs : List ℕ). told ++ xs) part.1 ∙ sym (append_assoc told front part.0))),
+  grows ∙ (ap (λ (xs : List ℕ). xs ++ front) is ∙ append_assoc before told front),
+)
+
+pub bay-breaks : {S : Type 0} (tells : Bool) (contents : S → Contents) (s : Setup) (before : List ℕ) (first : ℕ)
+    (start was now : Bay) (at then : S) (links : Links) (x : ℕ) (q : Passed) (os : List Outlet) →
+    BayComes tells contents s before first start was at links x → IsToldBy was now q → os ≡ now.outs.items →
+    ((f : ℕ) (putss : List (List Put)) → 3 ≤ f → OutsStand tells contents f os at putss → IsTrue tells →
+    (front : List ℕ) × IsFront front (passing_text now.greatest.moment q)
+    × ((contents then).written 1 ≡ (contents at).written 1 ++ front)) →
+    BayBroke tells contents s before then links.given
+bay-breaks tells contents s before first start was now at then links x q os comes told value wrote = record {
+  router = now.router;
+  greatest = turn_key was.greatest;
+  links = freed comes.links_now q.source;
+  play = passes.after;
+  course = passes.course;
+  idle = no-offer now.router.offered passes.after.offered passes.course.order.plays.offered
+      (ap (λ (m : Merger). m.offered) told.router ∙ next-idle was.router);
+  given_is = comes.given_is;
+  part = λ t.
+      let w = wrote first st.putss st.behind (on-slice tells contents first os now.outs.items at st.putss value
+      (subst (λ (xs : List Outlet). OutsStand tells contents first xs at st.putss) (sym told.outs) st.outs)) t in
+      grown-part before (text_of (report_of comes.play.passed)) w.0 (passing_text now.greatest.moment q)
+      ((contents at).written 1) ((contents then).written 1) (text_of (report_of passes.after.passed)) (st.report t) w.2
+      w.1 (passes-told s was.router now.router comes.links_now (turn_key was.greatest) comes.play q passes
+      ∙ ap (λ (moment : ℕ). text_of (report_of comes.play.passed) ++ passing_text moment q)
+      (sym (ap (λ turn. turn.moment) told.greatest)));
+}
+  where
+    st : BayStands tells contents s before first was at comes.links_now comes.play
+    st = comes.stands
+
+    passes : Passes s was.router now.router comes.links_now (turn_key was.greatest) comes.play q
+    passes = passes-of s was comes.links_now comes.play q now.router st.course told.told told.router
+
+-- between two marks that pass
+pub bay-broken : {S : Type 0} (tells : Bool) (contents : S → Contents) (s : Setup) (before : List ℕ) (first : ℕ)
+    (b : Bay) (at then : S) (links : Links) (play : Play) → BayStands tells contents s before first b at links play →
+    b.router.draining ≡ false → (IsTrue tells → (contents then).written 1 ≡ (contents at).written 1) →
+    BayBroke tells contents s before then links.given
+bay-broken tells contents s before first b at then links play st drained same = record {
+  router = b.router;
+  greatest = turn_key b.greatest;
+  links = links;
+  play = play;
+  course = st.course;
+  idle = no-offer b.router.offered play.offered st.course.order.plays.offered
+      ((reached-fits s b.router st.course.reached).quiet drained).0;
+  given_is = λ y. refl;
+  part = λ t. (
+    text_of (report_of play.passed),
+    ([], sym (append-nil (text_of (report_of play.passed)))),
+    same t ∙ st.report t,
+  );
+}
+
+pub report-kept : {S : Type 0} (tells : Bool) (contents : S → Contents) (read_faults : S → ℕ) (s : Setup)
+    (before : List ℕ) (first : ℕ) (b : Bay) (at then : S) (links : Links) (play : Play) →
+    ((f : ℕ) (putss : List (List Put)) → OutsStand tells contents f b.outs.items at putss →
+    WroteAmong tells contents read_faults f (length b.outs.items) at then) →
+    BayStands tells contents s before first b at links play → IsTrue tells →
+    (contents then).written 1 ≡ (contents at).written 1
+report-kept tells contents read_faults s before first b at then links play among st t =
+    (among first st.putss st.outs).others t 1
+    (λ lower higher. let low = st.behind in omega (arith, low, lower))
+
+-- what the outs have between two marks that pass
+
+pub record OutLive {S : Type 0} (tells : Bool) (contents : S → Contents) (s : Setup) (first out : ℕ) (port : RigPort)
+    (at : S) (play : Play) : Type 0 where
+  pub puts : List Put
+  pub are : marks_put puts ≡ puts_to s.routes out play.passed
+  pub has : IsTrue tells → (contents at).written (first + out) ≡ live port.spec puts
+
+pub live-at : {S : Type 0} (tells : Bool) (contents : S → Contents) (s : Setup) (first out : ℕ) (outs : List Outlet)
+    (at : S) (putss : List (List Put)) (ports : List RigPort) (play : Play) →
+    OutsStand tells contents (first + out) outs at putss → map outlet_spec outs ≡ specs_of ports →
+    AreHanded s.routes out putss play.passed → (i : ℕ) (port : RigPort) → slice_get ports i ≡ Some port →
+    OutLive tells contents s first (out + i) port at play
+live-at tells contents s first out [] at [] [] play st specs handed i port is = absurd (none≢some port is)
+live-at tells contents s first out [] at (ps ∷ pss) ports play st specs handed i port is = absurd st
+live-at tells contents s first out (o ∷ os) at [] ports play st specs handed i port is = absurd st
+live-at tells contents s first out [] at [] (p ∷ ports) play st specs handed i port is = absurd (nil-cons specs)
+live-at tells contents s first out (o ∷ os) at (ps ∷ pss) [] play st specs handed i port is = absurd (none≢some port is)
+live-at tells contents s first out (o ∷ os) at (ps ∷ pss) (p ∷ ports) play st specs handed zero port is = record {
+  puts = ps;
+  are = handed.0 ∙ ap (λ n. puts_to s.routes n play.passed) (omega arith);
+  has = λ t. ap (contents at).written (omega (arith, st.0 t)) ∙ (st.1.has t ∙ ap (λ spec. live spec ps)
+      (head-same specs ∙ ap (λ (q : RigPort). q.spec) (some_same is)));
+}
+  where
+    head-same : {A : Type 0} {a b : A} {xs ys : List A} → a ∷ xs ≡ b ∷ ys → a ≡ b
+    head-same e = cc
+live-at tells contents s first out (o ∷ os) at (ps ∷ pss) (p ∷ ports) play st specs handed (suc i) port is =
+    subst (λ n. OutLive tells contents s first n port at play) (omega arith)
+    (live-at tells contents s first (out + 1) os at pss ports play
+    (subst (λ n. OutsStand tells contents n os at pss) (omega arith) st.2) (tail-same specs) handed.1 i port is)
+  where
+    tail-same : {A : Type 0} {a b : A} {xs ys : List A} → a ∷ xs ≡ b ∷ ys → xs ≡ ys
+    tail-same e = cc
+
+pub bay-live : {S : Type 0} (tells : Bool) (contents : S → Contents) (s : Setup) (before : List ℕ) (first : ℕ)
+    (b : Bay) (at : S) (links : Links) (play : Play) → BayStands tells contents s before first b at links play →
+    (out : ℕ) (port : RigPort) → slice_get s.outs out ≡ Some port → OutLive tells contents s first out port at play
+bay-live tells contents s before first b at links play st out port is =
+    subst (λ n. OutLive tells contents s first n port at play) (omega arith)
+    (live-at tells contents s first 0 b.outs.items at st.putss s.outs play
+    (subst (λ n. OutsStand tells contents n b.outs.items at st.putss) (omega arith) st.outs) st.specs st.handed out port
+    is)

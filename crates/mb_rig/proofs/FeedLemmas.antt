@@ -1,6 +1,7 @@
 -- What a link has given, mark by mark.
 use Rattle.std.proofs.Common.{◌≡◌, ◌≢◌, ◌≤◌, ◌<◌, ◌+◌, ℕ, zero, suc, Bool, true, false, not, List, [], ◌∷◌, ◌++◌, take}
 use Rattle.std.proofs.Common.{drop, refl, sym, ◌∙◌, ap, subst, arith, append_assoc, append-nil, IsTrue, Option, Some, None}
+use Rattle.std.proofs.Common.{length}
 use Rattle.std.proofs.lemmas.List.{take-append-drop}
 use Rattle.mb_message.specs.Front.{IsFront}
 use Rattle.mb_message.specs.Signs.{Sign, sign_of, suits_sign}
@@ -18,7 +19,7 @@ use Rattle.mb_track.specs.TrackReading.{track_moment, track_of, track_spec}
 use Rattle.mb_track.proofs.EndLemmas.{all-closed}
 use Rattle.mb_track.proofs.FrontLemmas.{all-suit, told-front, told-suits}
 use Rattle.mb_track.proofs.GrowLemmas.{track-grows}
-use Rattle.mb_rig.specs.Supply.{front_of}
+use Rattle.mb_rig.specs.Supply.{IsCounted, front_of}
 use Rattle.mb_rig.specs.Link.{LinkReads, LinkStands, TookFrom}
 use Rattle.mb_rig.specs.Feed.{FeedFront, FeedGave, FeedStands, FeedTurned, IsSameLink, key_by, waiting_by}
 use Rattle.mb_rig.specs.Bay.{BayWrote}
@@ -123,6 +124,7 @@ pub link-kept : {S : Type 0} (tells : Bool) (contents : S → Contents) (l : Lin
 link-kept tells contents l at now told left taken readable st = record {
   bytes = st.bytes;
   lent = λ t. record { readable = readable t ∙ (st.lent t).readable; taken = taken t ∙ (st.lent t).taken };
+  counted = λ t. record { count = ap length (taken t) ∙ (st.counted t).count; within = (st.counted t).within };
   most = st.most;
   reads = st.reads;
   ends = st.ends;
@@ -195,8 +197,9 @@ same-then a b c first second = record {
 pub feed-front : {S : Type 0} (tells : Bool) (contents : S → Contents) (x : ℕ) (f g : Feed) (at now : S)
     (present : Option Key) (given : List Put) → IsSameLink f.link g.link →
     (IsTrue tells → TookFrom f.link.supply.handle (contents at) (contents now)) →
+    (IsTrue tells → IsCounted g.link.supply (contents now)) →
     FeedStands tells contents x f at present given → FeedFront tells contents g now given
-feed-front tells contents x f g at now present given same took st = record {
+feed-front tells contents x f g at now present given same took counted st = record {
   front = λ t.
       let told = told-front-of tells contents f.link at st.told (contents now) st.stands t (took t) in
       let all : track_marks (track_spec f.link.reader) (track_of f.link.reader)
@@ -211,6 +214,7 @@ feed-front tells contents x f g at now present given same took st = record {
       (sym same.handle)) in
       subst (λ (ps : List Put). IsFront given ps) all
       (front-then given st.told _ (waiting_by f.record f.waiting, st.given_is) told);
+  counted = counted;
 }
 
 pub feed-stopped : {S : Type 0} (tells : Bool) (contents : S → Contents) (x : ℕ) (f : Feed) (at : S)
@@ -218,7 +222,8 @@ pub feed-stopped : {S : Type 0} (tells : Bool) (contents : S → Contents) (x : 
     FeedFront tells contents f at given
 feed-stopped tells contents x f at present given st =
     feed-front tells contents x f f at at present given
-    (record { handle = refl; limit = refl; spec = refl; track = refl }) (λ t. took-none _ _ _ refl) st
+    (record { handle = refl; limit = refl; spec = refl; track = refl }) (λ t. took-none _ _ _ refl)
+    st.stands.counted st
 
 -- a mark is given
 
@@ -353,6 +358,7 @@ pub record FeedIsOver (c : Contents) (f : Feed) (given : List Put) : Type 0 wher
   pub all : given ≡ track_marks (track_spec f.link.reader) (track_of f.link.reader) (c.taken f.link.supply.handle)
   pub left : c.left f.link.supply.handle ≡ []
   pub right : tape_fault (c.taken f.link.supply.handle) ≡ None
+  pub below : length (c.taken f.link.supply.handle) < f.link.supply.limit
   pub cut : f.link.cut ≡ not (track_whole (track_spec f.link.reader) (track_of f.link.reader)
       (c.taken f.link.supply.handle))
 
@@ -373,6 +379,7 @@ feed-over tells contents x f at present given none t st =
           ∙ (ends.all ∙ ap (track_marks (track_spec l.reader) (track_of l.reader)) (sym taken));
       left = st.stands.nothing_left over t;
       right = ap tape_fault taken ∙ ends.right;
+      below = omega (arith, (st.stands.counted t).count, ends.below);
       cut =
           ends.cut
           ∙ ap (λ (xs : List ℕ). not (track_whole (track_spec l.reader) (track_of l.reader) xs)) (sym taken);

@@ -1,5 +1,5 @@
 -- What a link is whose file was opened.
-use Rattle.std.proofs.Common.{◌≡◌, ◌≤◌, ◌^◌, ℕ, Bool, false, List, [], IsTrue, ◌∙◌, ap, sym}
+use Rattle.std.proofs.Common.{◌≡◌, ◌≤◌, ◌^◌, ℕ, Bool, false, List, [], IsTrue, ◌∙◌, ap, sym, length, arith}
 use Rattle.mb_outside.specs.Contents.{Contents, after_open, is_readable, next_handle}
 use Rattle.mb_outside.specs.ContentsLaws.{with_entry-here}
 use Rattle.mb_outside.proofs.HandleLemmas.{readable-opened}
@@ -23,6 +23,19 @@ link-opened tells contents l before after name reading most none reads opened = 
             ap (contents after).taken o.0
             ∙ (ap (λ (z : Contents). z.taken (next_handle (contents before))) o.2
             ∙ (with_entry-here (contents before).taken (next_handle (contents before)) [] ∙ sym none));
+      };
+  counted = λ t.
+      let o = opened t in
+      record {
+        count = omega (
+          arith,
+          ap (λ (h : ℕ). length ((contents after).taken h)) o.0,
+          ap (λ (z : Contents). length (z.taken (next_handle (contents before)))) o.2,
+          ap length (with_entry-here (contents before).taken (next_handle (contents before)) []),
+          reads.count,
+          ap length none,
+        );
+        within = omega (arith, reads.count, ap length none);
       };
   most = most;
   reads = λ _. reads;

@@ -1,5 +1,5 @@
 -- What else a bay's writing leaves as it was.
-use Rattle.std.proofs.Common.{◌≡◌, ◌≢◌, ℕ, ◌+◌, ◌<◌, ◌≤◌, Bool, List, IsTrue, refl, ap, ◌∙◌, arith}
+use Rattle.std.proofs.Common.{◌≡◌, ◌≢◌, ℕ, ◌+◌, ◌<◌, ◌≤◌, Bool, List, ◌++◌, IsTrue, refl, ap, ◌∙◌, arith}
 use Rattle.std.specs.Prelude.{Result, Ok, Err, OnOk, OnErr}
 use Rattle.mb_message.specs.Front.{IsPart}
 use Rattle.std.proofs.lemmas.Bool.Decides.{nat_tests}
@@ -57,3 +57,8 @@ pub wrote-some : {S A E : Type 0} (tells : Bool) (contents : S → Contents) (re
     (bytes : List ℕ) × Wrote tells contents read_faults 1 before bytes after
 wrote-some tells contents read_faults before after text (Ok a) ok err = (text, ok)
 wrote-some tells contents read_faults before after text (Err e) ok err = (err.0, err.2)
+
+pub line-wrote : {S : Type 0} (tells : Bool) (contents : S → Contents) (read_faults : S → ℕ) (before after : S)
+    (bytes : List ℕ) → Wrote tells contents read_faults 1 before bytes after → IsTrue tells →
+    (contents after).written 1 ≡ (contents before).written 1 ++ bytes
+line-wrote tells contents read_faults before after bytes wrote t = ap (λ (z : Contents). z.written 1) (wrote.contents_are t)

@@ -12,7 +12,11 @@ pub mod BayLemmas
 pub mod FilesLemmas
 pub mod FeedLemmas
 pub mod StepLemmas
+pub mod GivenLemmas
 pub mod RunLemmas
+pub mod StartLemmas
+pub mod StampLemmas
 pub mod EndLemmas
+pub mod BeginLemmas
 mod Examples
 pub mod Merging

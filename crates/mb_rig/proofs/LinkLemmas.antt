@@ -27,7 +27,7 @@ use Rattle.mb_track.specs.TrackReading.{track_owed, track_spec}
 use Rattle.mb_track.specs.declared.track.TrackReader.{TrackReader}
 use Rattle.mb_track.proofs.StandLemmas.{own-owed, stands-more}
 use Rattle.mb_rig.specs.Heard.{IfNothing, heard_fault, heard_signs}
-use Rattle.mb_rig.specs.Supply.{Drew, SupplyValue, front_of}
+use Rattle.mb_rig.specs.Supply.{Drew, IsCounted, SupplyValue, front_of}
 use Rattle.mb_rig.specs.Link.{LinkHeard, LinkReads, LinkRests, LinkStands, TookFrom, link_owed, link_work}
 use Rattle.mb_rig.specs.declared.heard.Heard.{Heard}
 use Rattle.mb_rig.specs.declared.link.Link.{Link}
@@ -159,6 +159,15 @@ took-then h k b c d same first second = record {
 pub drew-took : (handle : ℕ) (c d : Contents) (more : List ℕ) → Drew handle c more d → TookFrom handle c d
 drew-took handle c d more drew = record { many = length more; contents = drew.contents }
 
+-- what is counted
+
+pub counted-same : (s n : SupplyValue) (c : Contents) → n.handle ≡ s.handle → n.limit ≡ s.limit → n.count ≡ s.count →
+    IsCounted s c → IsCounted n c
+counted-same s n c handle limit count is = record {
+  count = ap (λ (h : ℕ). length (c.taken h)) handle ∙ (is.count ∙ sym count);
+  within = omega (arith, is.within, limit, count);
+}
+
 -- it hears marks of what is at hand
 pub link-heard : {S : Type 0} (tells : Bool) (contents : S → Contents) (l m : Link) (at : S) (told more : List Put) →
     l.over ≡ false → m.over ≡ l.over → m.supply.handle ≡ l.supply.handle → m.supply.limit ≡ l.supply.limit →
@@ -174,6 +183,14 @@ link-heard tells contents l m at told more goes_on still handle limit goes st =
             ap (λ n. (contents at).taken n) handle ∙ ((st.lent t).taken ∙ (ap (λ xs. st.bytes ++ xs) h.front
             ∙ sym (append_assoc st.bytes h.more m.supply.ahead)));
       };
+      counted = λ t. counted-same l.supply m.supply (contents at) handle limit (omega (
+        arith,
+        h.reads.count,
+        (st.reads goes_on).count,
+        ap length h.front,
+        length-append h.more m.supply.ahead,
+        length-append st.bytes h.more,
+      )) (st.counted t);
       most = omega (arith, limit, st.most);
       reads = λ _. h.reads;
       ends = λ over. cc;
@@ -189,6 +206,16 @@ lent-read h k c d bytes ahead more used same taken drew =
     ∙ (with_entry-here c.taken h (c.taken h ++ take (length more) (c.left h))
     ∙ (ap (λ xs. c.taken h ++ xs) (sym drew.bytes)
     ∙ ap (λ xs. xs ++ more) (taken ∙ (ap (λ xs. bytes ++ xs) used ∙ append-nil bytes)))))
+
+pub counted-read : (s n : SupplyValue) (c d : Contents) (more : List ℕ) → n.handle ≡ s.handle →
+    n.count ≡ s.count + length more → n.count ≤ n.limit → Drew s.handle c more d → IsCounted s c → IsCounted n d
+counted-read s n c d more same count within drew is = record {
+  count =
+      ap length (lent-read s.handle n.handle c d (c.taken s.handle) [] more refl same
+      (sym (append-nil (c.taken s.handle))) drew)
+      ∙ omega (arith, length-append (c.taken s.handle) more, is.count, count);
+  within = within;
+}
 
 readable-read : (h k : ℕ) (c d : Contents) (more : List ℕ) → k ≡ h → is_readable c h ≡ true → Drew h c more d →
     is_readable d k ≡ true
@@ -238,6 +265,8 @@ link-read tells contents l m at next told goes_on still reader handle limit used
         taken = lent-read l.supply.handle m.supply.handle (contents at) (contents next) st.bytes l.supply.ahead
             m.supply.ahead used handle (st.lent t).taken (drew t);
       };
+      counted = λ t. counted-read l.supply m.supply (contents at) (contents next) m.supply.ahead handle count within
+          (drew t) (st.counted t);
       most = few;
       reads = λ _. record {
         count = omega (arith, count, r.count, ap length used);
@@ -255,7 +284,8 @@ link-read tells contents l m at next told goes_on still reader handle limit used
 -- its tape is over
 pub link-ends : {S : Type 0} (tells : Bool) (contents : S → Contents) (l m e : Link) (at next : S)
     (told last : List Put) → l.over ≡ false → e.over ≡ true → e.supply.handle ≡ l.supply.handle →
-    e.supply.limit ≡ l.supply.limit → e.supply.ahead ≡ [] → m.supply.ahead ≡ [] →
+    e.supply.limit ≡ l.supply.limit → e.supply.count ≡ l.supply.count → l.supply.count < l.supply.limit →
+    e.supply.ahead ≡ [] → m.supply.ahead ≡ [] →
     l.supply.ahead ≡ front_of l.supply ++ m.supply.ahead →
     track_spec e.reader ≡ track_spec m.reader → track_of e.reader ≡ track_of m.reader →
     ((bytes : List ℕ) (told : List Put) → LinkReads l bytes told →
@@ -265,8 +295,8 @@ pub link-ends : {S : Type 0} (tells : Bool) (contents : S → Contents) (l m e :
     ((bytes : List ℕ) → TrackTold m.reader bytes → last ≡ track_end (track_spec m.reader) (track_of m.reader) bytes) →
     (IsTrue tells → Drew l.supply.handle (contents at) [] (contents next)) →
     LinkStands tells contents l at told → LinkStands tells contents e next (told ++ last)
-link-ends tells contents l m e at next told last goes_on over handle limit none used front spec track rests cut ends
-    drew st =
+link-ends tells contents l m e at next told last goes_on over handle limit count below none used front spec track rests
+    cut ends drew st =
     let bytes = st.bytes ++ front_of l.supply in
     let r = rests st.bytes told (st.reads goes_on) in
     let all : l.supply.ahead ≡ front_of l.supply =
@@ -281,6 +311,8 @@ link-ends tells contents l m e at next told last goes_on over handle limit none 
             ((st.lent t).taken ∙ (ap (λ xs. st.bytes ++ xs) all ∙ sym (append-nil bytes))) (drew t)
             ∙ ap (λ xs. bytes ++ xs) (sym none);
       };
+      counted = λ t. counted-read l.supply e.supply (contents at) (contents next) [] handle (omega (arith, count))
+          (omega (arith, count, below, limit)) (drew t) (st.counted t);
       most = omega (arith, limit, st.most);
       reads = λ not_over. cc;
       ends = λ _. record {
@@ -296,6 +328,7 @@ link-ends tells contents l m e at next told last goes_on over handle limit none 
             ∙ (ap (λ (s : Spec). not (track_whole s (track_of m.reader) bytes)) (sym spec)
             ∙ ap (λ (n : ℕ). not (track_whole (track_spec e.reader) n bytes)) (sym track));
         used = none;
+        below = omega (arith, count, below, limit);
       };
       nothing_left = λ _ t.
           ap (contents next).left handle

@@ -13,10 +13,11 @@ use Rattle.mb_rig.specs.RigText.{RigPort, Setup}
 use Rattle.mb_rig.specs.Bay.{BayStands, HasRoom, is_stalled, turn_key}
 use Rattle.mb_rig.specs.Feed.{FeedFront, FeedStands, IsFeed, IsSameLink, feed_owed, key_by}
 use Rattle.mb_rig.specs.Link.{LinkStands}
-use Rattle.mb_rig.specs.Step.{IfLink, OthersKeep, StepEnds, StepMay, StepStops, StopsBy}
+use Rattle.mb_rig.specs.Causes.{EndCause, StopCause}
+use Rattle.mb_rig.specs.Step.{ByStop, OthersKeep, StepBroke, StepEnds, StepMay, StepStops, StopsBy}
 use Rattle.mb_rig.specs.Turn.{IsTurn, MayStep}
-use Rattle.mb_rig.specs.Running.{AreFeeds, HaltsBy, IfLinkEnd, RunOver, RunStands, RunStopped, RunTouched, feeds_owed}
-use Rattle.mb_rig.specs.Running.{turn_at}
+use Rattle.mb_rig.specs.Running.{AreFeeds, ByEnd, HaltsBy, RunBroken, RunOver, RunStands, RunStopped, RunTouched}
+use Rattle.mb_rig.specs.Running.{feeds_owed, turn_at}
 use Rattle.mb_rig.specs.Ending.{end_by}
 use Rattle.mb_rig.specs.declared.ending.RigEnd.{RigEnd}
 use Rattle.mb_rig.specs.declared.feed.RunStop.{RunStop}
@@ -37,7 +38,7 @@ use Rattle.mb_rig.proofs.Merging.Reached.{reached-fits}
 
 -- one of a list changed
 
-get-set_same : {A : Type 0} (xs : List A) (i : ℕ) (a b : A) → slice_get xs i ≡ Some b →
+pub get-set_same : {A : Type 0} (xs : List A) (i : ℕ) (a b : A) → slice_get xs i ≡ Some b →
     slice_get (slice_set xs i a) i ≡ Some a
 get-set_same [] i a b is = absurd (none≢some b is)
 get-set_same (x ∷ xs) zero a b is = refl
@@ -51,7 +52,7 @@ get-set_other (x ∷ xs) zero (suc j) a apart = refl
 get-set_other (x ∷ xs) (suc i) zero a apart = refl
 get-set_other (x ∷ xs) (suc i) (suc j) a apart = get-set_other xs i j a (λ e. apart (ap suc e))
 
-at-set : {A : Type 0} (P : ℕ → A → Type 0) (xs : List A) (x : ℕ) (a old : A) → slice_get xs x ≡ Some old → P x a →
+pub at-set : {A : Type 0} (P : ℕ → A → Type 0) (xs : List A) (x : ℕ) (a old : A) → slice_get xs x ≡ Some old → P x a →
     ((y : ℕ) (b : A) → y ≢ x → slice_get xs y ≡ Some b → P y b) → (y : ℕ) (b : A) →
     slice_get (slice_set xs x a) y ≡ Some b → P y b
 at-set P xs x a old is here there y b at = ⊎_elim
@@ -187,11 +188,11 @@ run-over tells contents s before base first limit feeds b at links play turns st
 
 -- the other links when one stepped
 
-abbrev FeedsKeep : {S : Type 0} → (S → Contents) → Bool → (at now : S) → (h : ℕ) → Type 0
+abbrev pub FeedsKeep : {S : Type 0} → (S → Contents) → Bool → (at now : S) → (h : ℕ) → Type 0
 FeedsKeep contents tells at now h = IsTrue tells → ((contents now).left h ≡ (contents at).left h)
     × ((contents now).taken h ≡ (contents at).taken h) × (is_readable (contents now) h ≡ is_readable (contents at) h)
 
-other-keeps : {S : Type 0} (tells : Bool) (contents : S → Contents) (base count first outs x y : ℕ)
+pub other-keeps : {S : Type 0} (tells : Bool) (contents : S → Contents) (base count first outs x y : ℕ)
     (at now : S) (f g : Feed) → RunTouched tells contents f.link.supply.handle 1 first outs at now → y ≢ x →
     (IsTrue tells → f.link.supply.handle ≡ base + x) → (IsTrue tells → g.link.supply.handle ≡ base + y) →
     FeedsKeep contents tells at now g.link.supply.handle
@@ -214,7 +215,7 @@ feed-other tells contents y g at now was is given_was given_is keep same given s
     (feed-kept tells contents y g at now was given_was
     (λ told. link-kept tells contents g.link at now told (λ t. (keep t).0) (λ t. (keep t).1) (λ t. (keep t).2)) st))
 
-feeds-set : (tells : Bool) (s : Setup) (base limit : ℕ) (feeds : List Feed) (x : ℕ) (f new : Feed) →
+pub feeds-set : (tells : Bool) (s : Setup) (base limit : ℕ) (feeds : List Feed) (x : ℕ) (f new : Feed) →
     AreFeeds tells s base limit feeds → slice_get feeds x ≡ Some f → IsSameLink f.link new.link →
     AreFeeds tells s base limit (slice_set feeds x new)
 feeds-set tells s base limit feeds x f new are is same = record {
@@ -288,32 +289,65 @@ run-stopped tells contents s before base first limit outs feeds b now at then li
           (st.are.here y g at_y)) refl (stops.others.given y apart) (st.each y g at_y)));
     }
 
+-- a write failed
+pub run-broken : {S : Type 0} (tells : Bool) (contents : S → Contents) (s : Setup) (before : List ℕ)
+    (base first limit outs : ℕ) (feeds : List Feed) (b : Bay) (at then : S) (links : Links) (play : Play) (x : ℕ)
+    (f new : Feed) → RunStands tells contents s before base first limit feeds b at links play →
+    slice_get feeds x ≡ Some f → IsSameLink f.link new.link →
+    RunTouched tells contents f.link.supply.handle 1 first outs at then →
+    StepBroke tells contents s before x new then links →
+    RunBroken tells contents s before base limit (slice_set feeds x new) then
+run-broken tells contents s before base first limit outs feeds b at then links play x f new st is same touched broke =
+    record {
+      given = broke.given;
+      broke = broke.broke;
+      are = feeds-set tells s base limit feeds x f new st.are is same;
+      fronts = at-set (λ y (g : Feed). FeedFront tells contents g then (broke.given y)) feeds x new f is broke.front
+          (λ y g apart at_y. feed-stopped tells contents y g then (links.present y) (broke.given y)
+          (feed-other tells contents y g at then (links.present y) (links.present y) (links.given y) (broke.given y)
+          (other-keeps tells contents base 1 first outs x y at then f g touched apart (st.are.here x f is)
+          (st.are.here y g at_y)) refl (broke.others y apart) (st.each y g at_y)));
+    }
+
 -- what a stop at a link says of the run
 
-pub halts-by : (tells : Bool) (s : Setup) (base limit reads reads_now writes writes_now x handle : ℕ)
-    (now : Contents) (stop : RunStop) → x < length s.ins → (IsTrue tells → handle ≡ base + x) →
-    StopsBy tells reads reads_now writes writes_now limit (now.taken handle) stop →
-    HaltsBy tells s base limit reads reads_now writes writes_now now (end_by x stop)
-halts-by tells s base limit reads reads_now writes writes_now x handle now stop.WriteFault below here by = by
-halts-by tells s base limit reads reads_now writes writes_now x handle now (stop.Link why.ReadFault) below here by = by
-halts-by tells s base limit reads reads_now writes writes_now x handle now (stop.Link why.TooLong) below here by = (
+pub halts-by : (tells : Bool) (s : Setup) (base limit x handle : ℕ) (now : Contents) (stop : RunStop) →
+    x < length s.ins → (IsTrue tells → handle ≡ base + x) → StopsBy tells limit (now.taken handle) stop →
+    HaltsBy tells s base limit now (end_by x stop)
+halts-by tells s base limit x handle now stop.WriteFault below here by = tt
+halts-by tells s base limit x handle now (stop.Link why.ReadFault) below here by = tt
+halts-by tells s base limit x handle now (stop.Link why.TooLong) below here by = (
   below,
-  (λ t. subst (λ h. (length (now.taken h) ≡ limit) × (tape_fault (now.taken h) ≡ None) × (reads_now ≡ reads)) (here t)
-      (by.0 t)),
-  by.1,
+  λ t. subst (λ h. (length (now.taken h) ≡ limit) × (tape_fault (now.taken h) ≡ None)) (here t) (by t),
 )
-halts-by tells s base limit reads reads_now writes writes_now x handle now (stop.Link (why.BadTape fault)) below here by = (
+halts-by tells s base limit x handle now (stop.Link (why.BadTape fault)) below here by = (
   below,
-  (λ t. subst (λ h. ((bytes : List ℕ) × IsFront bytes (now.taken h) × (tape_fault bytes ≡ Some fault))
-      × (reads_now ≡ reads)) (here t) (by.0 t)),
-  by.1,
+  λ t. subst (λ h. (bytes : List ℕ) × IsFront bytes (now.taken h) × (tape_fault bytes ≡ Some fault)) (here t) (by t),
 )
 
-link-end : (x : ℕ) (stop : RunStop) (P Q : Type 0) → (P → Q) → IfLink stop P → IfLinkEnd (end_by x stop) Q
-link-end x stop.WriteFault P Q f p = tt
-link-end x (stop.Link why.ReadFault) P Q f p = f p
-link-end x (stop.Link why.TooLong) P Q f p = f p
-link-end x (stop.Link (why.BadTape fault)) P Q f p = f p
+by-end : (x : ℕ) (stop : RunStop) (P Q P_now Q_now : Type 0) → (P → P_now) → (Q → Q_now) → ByStop stop P Q →
+    ByEnd (end_by x stop) P_now Q_now
+by-end x stop.WriteFault P Q P_now Q_now f g q = g q
+by-end x (stop.Link why.ReadFault) P Q P_now Q_now f g p = f p
+by-end x (stop.Link why.TooLong) P Q P_now Q_now f g p = f p
+by-end x (stop.Link (why.BadTape fault)) P Q P_now Q_now f g p = f p
+
+-- the counts at a stop
+pub end-cause : (x : ℕ) (reads reads_now writes writes_now : ℕ) (stop : RunStop) →
+    StopCause reads reads_now writes writes_now stop → EndCause reads reads_now writes writes_now (end_by x stop)
+end-cause x reads reads_now writes writes_now stop.WriteFault by = by
+end-cause x reads reads_now writes writes_now (stop.Link why.ReadFault) by = by
+end-cause x reads reads_now writes writes_now (stop.Link why.TooLong) by = by
+end-cause x reads reads_now writes writes_now (stop.Link (why.BadTape fault)) by = by
+
+pub caused : (x reads reads_mid reads_now writes writes_mid writes_now : ℕ) (stop : RunStop) (end : RigEnd) →
+    reads_mid ≡ reads → writes_mid ≡ writes → end ≡ end_by x stop →
+    StopCause reads_mid reads_now writes_mid writes_now stop → EndCause reads reads_now writes writes_now end
+caused x reads reads_mid reads_now writes writes_mid writes_now stop end reads_are writes_are is by =
+    subst (EndCause reads reads_now writes writes_now) (sym is)
+    (subst (λ (r : ℕ). EndCause r reads_now writes writes_now (end_by x stop)) reads_are
+    (subst (λ (w : ℕ). EndCause reads_mid reads_now w writes_now (end_by x stop)) writes_are
+    (end-cause x reads_mid reads_now writes_mid writes_now stop by)))
 
 pub port-at : (ports : List RigPort) (i : ℕ) → i < length ports → (p : RigPort) × (slice_get ports i ≡ Some p)
 port-at [] i low = absurd (omega (arith, low))
@@ -321,32 +355,32 @@ port-at (p ∷ ps) zero low = (p, refl)
 port-at (p ∷ ps) (suc i) low = port-at ps i (omega (arith, low))
 
 pub halted : {S : Type 0} (tells : Bool) (contents : S → Contents) (s : Setup) (before : List ℕ)
-    (base first limit outs reads reads_mid reads_now writes writes_mid writes_now : ℕ) (feeds : List Feed)
-    (b now : Bay) (at then : S) (links : Links) (play : Play) (x : ℕ) (f new : Feed) (stop : RunStop) (end : RigEnd) →
+    (base first limit outs : ℕ) (feeds : List Feed) (b now : Bay) (at then : S) (links : Links) (play : Play) (x : ℕ)
+    (f new : Feed) (stop : RunStop) (end : RigEnd) →
     RunStands tells contents s before base first limit feeds b at links play → slice_get feeds x ≡ Some f →
     IsSameLink f.link new.link → RunTouched tells contents f.link.supply.handle 1 first outs at then →
-    reads_mid ≡ reads → writes_mid ≡ writes → end ≡ end_by x stop →
-    IfLink stop (StepStops tells contents s before first x b.router new now then links)
-    × StopsBy tells reads_mid reads_now writes_mid writes_now f.link.supply.limit
-    ((contents then).taken f.link.supply.handle) stop →
-    IfLinkEnd end (RunStopped tells contents s before base first limit (slice_set feeds x new) now then)
-    × HaltsBy tells s base limit reads reads_now writes writes_now (contents then) end
-halted tells contents s before base first limit outs reads reads_mid reads_now writes writes_mid writes_now feeds b now at
-    then links play x f new stop end st is same touched reads_are writes_are is_end by =
-    subst (λ e. IfLinkEnd e (RunStopped tells contents s before base first limit (slice_set feeds x new) now then)
-    × HaltsBy tells s base limit reads reads_now writes writes_now (contents then) e) (sym is_end) (
-      link-end x stop (StepStops tells contents s before first x b.router new now then links)
+    end ≡ end_by x stop →
+    ByStop stop (StepStops tells contents s before first x b.router new now then links)
+    (StepBroke tells contents s before x new then links)
+    × StopsBy tells f.link.supply.limit ((contents then).taken f.link.supply.handle) stop →
+    ByEnd end (RunStopped tells contents s before base first limit (slice_set feeds x new) now then)
+    (RunBroken tells contents s before base limit (slice_set feeds x new) then)
+    × HaltsBy tells s base limit (contents then) end
+halted tells contents s before base first limit outs feeds b now at then links play x f new stop end st is same touched
+    is_end by =
+    subst (λ e. ByEnd e (RunStopped tells contents s before base first limit (slice_set feeds x new) now then)
+    (RunBroken tells contents s before base limit (slice_set feeds x new) then)
+    × HaltsBy tells s base limit (contents then) e) (sym is_end) (
+      by-end x stop (StepStops tells contents s before first x b.router new now then links)
+          (StepBroke tells contents s before x new then links)
           (RunStopped tells contents s before base first limit (slice_set feeds x new) now then)
+          (RunBroken tells contents s before base limit (slice_set feeds x new) then)
           (run-stopped tells contents s before base first limit outs feeds b now at then links play x f new st is same
-          touched) by.0,
-      halts-by tells s base limit reads reads_now writes writes_now x f.link.supply.handle (contents then) stop below
-          (st.are.here x f is)
-          (subst (λ l. StopsBy tells reads reads_now writes writes_now l
-          ((contents then).taken f.link.supply.handle) stop) limit_is
-          (subst (λ r. StopsBy tells r reads_now writes writes_now f.link.supply.limit
-          ((contents then).taken f.link.supply.handle) stop) reads_are
-          (subst (λ w. StopsBy tells reads_mid reads_now w writes_now f.link.supply.limit
-          ((contents then).taken f.link.supply.handle) stop) writes_are by.1))),
+          touched)
+          (run-broken tells contents s before base first limit outs feeds b at then links play x f new st is same touched)
+          by.0,
+      halts-by tells s base limit x f.link.supply.handle (contents then) stop below (st.are.here x f is)
+          (subst (λ l. StopsBy tells l ((contents then).taken f.link.supply.handle) stop) limit_is by.1),
     )
   where
     below : x < length s.ins

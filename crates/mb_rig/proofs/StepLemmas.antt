@@ -11,11 +11,11 @@ use Rattle.mb_merge.specs.Links.{Merger}
 use Rattle.mb_rig.specs.RigText.{Setup}
 use Rattle.mb_rig.specs.Link.{StopsAt, TookFrom}
 use Rattle.mb_rig.specs.Outs.{OutsStand}
-use Rattle.mb_rig.specs.Bay.{BayGoes, BayStands, BayWrote, HasRoom, MayHand, turn_key}
+use Rattle.mb_rig.specs.Bay.{BayBroke, BayGoes, BayStands, BayWrote, HasRoom, MayHand, turn_key}
 use Rattle.mb_rig.specs.Feed.{FeedFront, FeedGave, FeedGoes, FeedStands, FeedTurned, count_waiting, feed_owed}
 use Rattle.mb_rig.specs.Feed.{key_by, waiting_by}
 use Rattle.mb_rig.specs.Running.{RunTouched}
-use Rattle.mb_rig.specs.Step.{OthersKeep, StepEnds, StepMay, StepStops, StepUnder}
+use Rattle.mb_rig.specs.Step.{OthersKeep, StepBroke, StepEnds, StepMay, StepStops, StepUnder}
 use Rattle.mb_rig.specs.Merging.Lines.{Key, is_below, key_at}
 use Rattle.mb_rig.specs.Merging.Run.{AtMost}
 use Rattle.mb_rig.specs.Merging.Playing.{Play}
@@ -25,7 +25,8 @@ use Rattle.mb_rig.specs.declared.feed.Feed.{Feed}
 use Rattle.mb_rig.specs.declared.link.LinkStop.{LinkStop}
 use Rattle.mb_rig.specs.declared.outlet.Outlet.{Outlet}
 use Rattle.mb_rig.specs.declared.turn.Turn.{Turn}
-use Rattle.mb_rig.proofs.FeedLemmas.{feed-wrote, none-waits}
+use Rattle.mb_rig.proofs.FeedLemmas.{feed-stopped, feed-wrote, none-waits}
+use Rattle.mb_rig.proofs.BayLemmas.{bay-broken}
 use Rattle.mb_rig.proofs.OutsLemmas.{entry-other}
 use Rattle.mb_rig.proofs.Merging.CourseSteps.{course-begins, course-renews}
 use Rattle.mb_rig.proofs.Merging.Given.{elsewhere, here-same}
@@ -88,7 +89,7 @@ others-renews m links x next = record {
 
 -- a link's tape was read
 
-outs-read : {S : Type 0} (tells : Bool) (contents : S → Contents) (first : ℕ) (outs : List Outlet) (at now : S)
+pub outs-read : {S : Type 0} (tells : Bool) (contents : S → Contents) (first : ℕ) (outs : List Outlet) (at now : S)
     (putss : List (List Put)) → (IsTrue tells → (contents now).written ≡ (contents at).written) →
     (IsTrue tells → (contents now).given ≡ (contents at).given) →
     OutsStand tells contents first outs at putss → OutsStand tells contents first outs now putss
@@ -357,6 +358,39 @@ step-stops tells contents s before first x moment handle m f g b at now links go
   others = goes.others;
 }
 
+-- a write fails as its mark is handed on
+pub step-breaks : {S : Type 0} (tells : Bool) (contents : S → Contents) (s : Setup) (before : List ℕ)
+    (first count : ℕ) (x moment : ℕ) (m : Merger) (f g : Feed) (b : Bay) (at mid now : S) (links : Links)
+    (mark : Mark) → (goes : StepGoes tells contents s before first x moment m f b at links) →
+    FeedGave tells contents x f g mid (goes.links_now.present x) (goes.links_now.given x) moment mark →
+    BayWrote tells contents first count mid now →
+    BayBroke tells contents s before now (gives goes.links_now x moment (sign_of mark)).given →
+    StepBroke tells contents s before x g now links
+step-breaks tells contents s before first count x moment m f g b at mid now links mark goes gave wrote broke =
+    let was = goes.links_now in
+    let more = was.given x ++ At moment (sign_of mark) ∷ [] in
+    record {
+      given = (gives was x moment (sign_of mark)).given;
+      broke = broke;
+      front = subst (FeedFront tells contents g now) (sym (here-same was.given x more))
+          (feed-stopped tells contents x g now _ more (feed-wrote tells contents x first count g mid now _ _ wrote
+          gave.stands));
+      others = λ y apart. elsewhere was.given x more y apart ∙ goes.others.given y apart;
+    }
+
+-- or as its packets are ended
+pub end-breaks : {S : Type 0} (tells : Bool) (contents : S → Contents) (s : Setup) (before : List ℕ)
+    (first count : ℕ) (x : ℕ) (m : Merger) (f : Feed) (b : Bay) (at now : S) (links : Links) →
+    (ends : StepEnds tells contents s before first x m f b at links) →
+    BayWrote tells contents first count at now → (IsTrue tells → (contents now).written 1 ≡ (contents at).written 1) →
+    StepBroke tells contents s before x f now links
+end-breaks tells contents s before first count x m f b at now links ends wrote same = record {
+  given = ends.links_now.given;
+  broke = bay-broken tells contents s before first b at now ends.links_now ends.play ends.stands ends.drained same;
+  front = feed-stopped tells contents x f now _ _ (feed-wrote tells contents x first count f at now _ _ wrote ends.feed);
+  others = ends.others.given;
+}
+
 -- each out ended its packet
 pub step-ended : {S : Type 0} (tells : Bool) (contents : S → Contents) (s : Setup) (before : List ℕ)
     (first count : ℕ) (x : ℕ) (m n : Merger) (f : Feed) (b c : Bay) (at now : S) (links : Links) →
@@ -385,12 +419,10 @@ pub owed-waits : (g : Feed) (mark : Mark) → g.waiting ≡ None →
 owed-waits g mark none = let count = ap count_waiting none in omega (arith, count)
 
 -- why a link stops it, from the step's beginning on
-pub stops-at : (was before now limit start : ℕ) (tape all : List ℕ) (stop : LinkStop) → was ≡ before → limit ≡ start →
-    tape ≡ all → StopsAt was now limit tape stop → StopsAt before now start all stop
-stops-at was before now limit start tape all stop reads same same_tape stops =
-    subst (λ (n : ℕ). StopsAt n now start all stop) reads
-    (subst (λ (n : ℕ). StopsAt was now n all stop) same
-    (subst (λ (xs : List ℕ). StopsAt was now limit xs stop) same_tape stops))
+pub stops-at : (limit start : ℕ) (tape all : List ℕ) (stop : LinkStop) → limit ≡ start → tape ≡ all →
+    StopsAt limit tape stop → StopsAt start all stop
+stops-at limit start tape all stop same same_tape stops =
+    subst (λ (n : ℕ). StopsAt n all stop) same (subst (λ (xs : List ℕ). StopsAt limit xs stop) same_tape stops)
 
 -- what a step touches
 

@@ -12,10 +12,12 @@
 --   OffersOf m x                the mark just offered, if it is to pass, is of this source
 --   MayHand ..                  what a step knows as it hands on a mark of a link
 --   HandedOn taken links x ..   the mark was taken, or the link was stalled
+--   BayBroke ..                 a write failed: of the report of what passed, also as it failed, a front was written
 --   BayEnds ..                  each out has all that what passed to it is written as
 use Rattle.std.specs.Prelude.{◌≡◌, ◌≢◌, ℕ, ◌+◌, ◌<◌, ◌≤◌, Bool, true, false, List, [], ◌∷◌, ◌++◌, length, map}
-use Rattle.std.specs.Prelude.{Some, IsTrue, slice_get, slice_index_or}
+use Rattle.std.specs.Prelude.{Some, None, IsTrue, slice_get, slice_index_or}
 use Rattle.mb_message.specs.declared.mark.Mark.{Mark}
+use Rattle.mb_message.specs.Front.{IsFront}
 use Rattle.mb_message.specs.Signs.{Sign, sign_of, suits_sign}
 use Rattle.mb_stream.specs.Puts.{Put, At, Flush, signs_in}
 use Rattle.mb_stream.specs.Standing.{is_open}
@@ -83,7 +85,8 @@ HasRoom m links x = links.stalled x ≡ false → length (link_of m x).held < 10
 abbrev pub KeepRoom : (m : Merger) → Links → (now : Merger) → Links → (x : ℕ) → Type 0
 KeepRoom m links now links_now x = (y : ℕ) → y ≢ x → HasRoom m links y → HasRoom now links_now y
 
--- A mark of link `x` was handed on, or none was: the keys stay, what was given is this, no link is stalled but this one.
+-- A mark of link `x` was handed on, or none was: the keys stay, what was given is this, no link is stalled but this
+-- one.
 pub record BayGoes {S : Type 0} (tells : Bool) (contents : S → Contents) (s : Setup) (before : List ℕ) (first : ℕ)
     (old new : Bay) (at : S) (links : Links) (x : ℕ) (given : ℕ → List Put) : Type 0 where
   pub links_now : Links
@@ -115,6 +118,19 @@ HandedOn tells contents s before first old new at links x moment mark play true 
 HandedOn tells contents s before first old new at links x moment mark play false =
     BayStands tells contents s before first new at (stalls links x) play × (new.router ≡ old.router)
     × (HasRoom old.router links x → ⊥)
+
+-- The marks of each link that were given are these.
+pub record BayBroke {S : Type 0} (tells : Bool) (contents : S → Contents) (s : Setup) (before : List ℕ) (at : S)
+    (given : ℕ → List Put) : Type 0 where
+  pub router : Merger
+  pub greatest : Key
+  pub links : Links
+  pub play : Play
+  pub course : Course s router links greatest play
+  pub idle : play.offered ≡ None
+  pub given_is : (y : ℕ) → links.given y ≡ given y
+  pub part : IsTrue tells → (front : List ℕ) × IsFront front (text_of (report_of play.passed))
+      × ((contents at).written 1 ≡ before ++ front)
 
 -- what an out was put, and what its handle has of it
 pub record OutHas {S : Type 0} (tells : Bool) (contents : S → Contents) (s : Setup) (first out : ℕ) (port : RigPort)

@@ -5,7 +5,8 @@
 --   waiting_by moment mark     the mark that waits, at its record's moment
 --   feed_owed f                more than what may yet come of it, for loops to end
 --   FeedStands .. x f at ..    link x, of whose marks these were given to the router, its record having this key
---   FeedFront ..               where it stopped: what was given is a front of the marks of what was taken off its tape
+--   FeedFront ..               where it stopped: what was given is a front of the marks of what was taken off its tape,
+--                              which is no more than may be
 --   IsFeed port limit h f      it reads this port, from this handle, at most so many bytes
 --   IsSameLink was now         the same tape, and the same track of it
 --   FeedGave ..                a mark was given, which suits what was given before
@@ -23,6 +24,7 @@ use Rattle.mb_track.specs.Track.{track_marks}
 use Rattle.mb_track.specs.TrackReading.{track_moment, track_of, track_spec}
 use Rattle.mb_rig.specs.RigText.{RigPort}
 use Rattle.mb_rig.specs.Link.{LinkStands, link_owed}
+use Rattle.mb_rig.specs.Supply.{IsCounted}
 use Rattle.mb_rig.specs.Merging.Lines.{Key, key_at}
 use Rattle.mb_rig.specs.declared.feed.Feed.{Feed}
 use Rattle.mb_rig.specs.declared.link.Link.{Link}
@@ -60,6 +62,7 @@ pub record FeedFront {S : Type 0} (tells : Bool) (contents : S → Contents) (f 
     : Type 0 where
   pub front : IsTrue tells → IsFront given (track_marks (track_spec f.link.reader) (track_of f.link.reader)
       ((contents at).taken f.link.supply.handle))
+  pub counted : IsTrue tells → IsCounted f.link.supply (contents at)
 
 pub record IsFeed (port : RigPort) (limit handle : ℕ) (f : Feed) : Type 0 where
   pub handle_is : f.link.supply.handle ≡ handle

@@ -14,6 +14,8 @@ pub mod Bay
 pub mod Feed
 pub mod Ending
 pub mod Running
-pub mod Opened
+pub mod Given
 pub mod RigRun
 pub mod Step
+pub mod Causes
+pub mod Beginning

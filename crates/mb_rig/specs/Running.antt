@@ -5,19 +5,20 @@
 --   RunStands ..               links, bay and desk of a run that has come so far
 --   feeds_owed feeds           more than what may yet come of them, for loops to end
 --   RunOver ..                 no link has a record
---   RunStopped ..              where it stopped
---   HaltsBy ..                 why it stopped
---   IfLinkEnd end P            P of an end that a link makes
+--   RunStopped ..              where a link stopped it
+--   RunBroken ..               where a write failed
+--   HaltsBy ..                 what an end says of the tapes
+--   ByEnd end P Q              P of an end that a link makes, Q of a write fault
 --   RunTouched ..              tapes of the links were read, standard output and outs written, and nothing else changed
 use Rattle.std.specs.Prelude.{◌≡◌, ◌≢◌, ℕ, ◌+◌, ◌<◌, ◌≤◌, Bool, true, false, List, length, Option, Some, None, IsTrue}
 use Rattle.std.specs.Prelude.{[], ◌∷◌, slice_get}
-use Rattle.mb_outside.specs.Cause.{Rose}
 use Rattle.mb_outside.specs.Contents.{Contents}
 use Rattle.mb_message.specs.Front.{IsFront}
+use Rattle.mb_stream.specs.Puts.{Put}
 use Rattle.mb_frames.specs.Tapes.{tape_fault}
 use Rattle.mb_frames.specs.declared.tape.TapeFault.{TapeFault}
 use Rattle.mb_rig.specs.RigText.{RigPort, Setup}
-use Rattle.mb_rig.specs.Bay.{BayStands, HasRoom}
+use Rattle.mb_rig.specs.Bay.{BayBroke, BayStands, HasRoom}
 use Rattle.mb_rig.specs.Feed.{FeedFront, FeedStands, IsFeed, feed_owed}
 use Rattle.mb_rig.specs.Merging.Course.{Links}
 use Rattle.mb_rig.specs.Merging.Playing.{Play}
@@ -63,6 +64,13 @@ pub record RunStopped {S : Type 0} (tells : Bool) (contents : S → Contents) (s
   pub are : AreFeeds tells s base limit feeds
   pub fronts : (x : ℕ) (f : Feed) → slice_get feeds x ≡ Some f → FeedFront tells contents f at (links.given x)
 
+pub record RunBroken {S : Type 0} (tells : Bool) (contents : S → Contents) (s : Setup) (before : List ℕ)
+    (base limit : ℕ) (feeds : List Feed) (at : S) : Type 0 where
+  pub given : ℕ → List Put
+  pub broke : BayBroke tells contents s before at given
+  pub are : AreFeeds tells s base limit feeds
+  pub fronts : (x : ℕ) (f : Feed) → slice_get feeds x ≡ Some f → FeedFront tells contents f at (given x)
+
 pub record RunTouched {S : Type 0} (tells : Bool) (contents : S → Contents) (base count first outs : ℕ)
     (before after : S) : Type 0 where
   pub given : IsTrue tells → (contents after).given ≡ (contents before).given
@@ -77,29 +85,23 @@ abbrev pub feeds_owed : List Feed → ℕ
 feeds_owed [] = 0
 feeds_owed (f ∷ fs) = feed_owed f + feeds_owed fs
 
--- of an end that a link makes
-abbrev pub IfLinkEnd : RigEnd → Type 0 → Type 0
-IfLinkEnd end.Done P = Unit {0}
-IfLinkEnd end.Cut P = Unit {0}
-IfLinkEnd end.ReadFault P = P
-IfLinkEnd end.WriteFault P = Unit {0}
-IfLinkEnd (end.BadTape link fault) P = P
-IfLinkEnd (end.TooLong link) P = P
-IfLinkEnd (end.Memory memory) P = Unit {0}
+abbrev pub ByEnd : RigEnd → Type 0 → Type 0 → Type 0
+ByEnd end.Done P Q = Unit {0}
+ByEnd end.Cut P Q = Unit {0}
+ByEnd end.ReadFault P Q = P
+ByEnd end.WriteFault P Q = Q
+ByEnd (end.BadTape link fault) P Q = P
+ByEnd (end.TooLong link) P Q = P
+ByEnd (end.Memory memory) P Q = Unit {0}
 
 -- the tapes' bytes are what was taken off the links' handles, which begin at `base`
-abbrev pub HaltsBy : (tells : Bool) → Setup → (base limit reads reads_now writes writes_now : ℕ) → Contents → RigEnd →
-    Type 0
-HaltsBy tells s base limit reads reads_now writes writes_now now end.Done = ⊥
-HaltsBy tells s base limit reads reads_now writes writes_now now end.Cut = ⊥
-HaltsBy tells s base limit reads reads_now writes writes_now now end.ReadFault =
-    (IsTrue tells → Rose reads reads_now) × (writes_now ≡ writes)
-HaltsBy tells s base limit reads reads_now writes writes_now now end.WriteFault =
-    Rose writes writes_now × (reads_now ≡ reads)
-HaltsBy tells s base limit reads reads_now writes writes_now now (end.BadTape link fault) =
-    (link < length s.ins) × (IsTrue tells → ((bytes : List ℕ) × IsFront bytes (now.taken (base + link))
-    × (tape_fault bytes ≡ Some fault)) × (reads_now ≡ reads)) × (writes_now ≡ writes)
-HaltsBy tells s base limit reads reads_now writes writes_now now (end.TooLong link) =
-    (link < length s.ins) × (IsTrue tells → (length (now.taken (base + link)) ≡ limit)
-    × (tape_fault (now.taken (base + link)) ≡ None) × (reads_now ≡ reads)) × (writes_now ≡ writes)
-HaltsBy tells s base limit reads reads_now writes writes_now now (end.Memory memory) = ⊥
+abbrev pub HaltsBy : (tells : Bool) → Setup → (base limit : ℕ) → Contents → RigEnd → Type 0
+HaltsBy tells s base limit now end.Done = ⊥
+HaltsBy tells s base limit now end.Cut = ⊥
+HaltsBy tells s base limit now end.ReadFault = Unit {0}
+HaltsBy tells s base limit now end.WriteFault = Unit {0}
+HaltsBy tells s base limit now (end.BadTape link fault) = (link < length s.ins) × (IsTrue tells →
+    (bytes : List ℕ) × IsFront bytes (now.taken (base + link)) × (tape_fault bytes ≡ Some fault))
+HaltsBy tells s base limit now (end.TooLong link) = (link < length s.ins) × (IsTrue tells →
+    (length (now.taken (base + link)) ≡ limit) × (tape_fault (now.taken (base + link)) ≡ None))
+HaltsBy tells s base limit now (end.Memory memory) = ⊥

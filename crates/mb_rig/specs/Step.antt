@@ -7,15 +7,17 @@
 --   StepUnder ..                 a step under way, within the link's record
 --   StepEnds ..                  where it ends
 --   StepStops ..                 where the link stops it: what was given is a front of its marks
---   StopsBy stop ..              why a run stops
+--   StepBroke ..                 where a write failed
+--   ByStop stop P Q              P of a stop that a link makes, Q of a write fault
+--   StopsBy stop ..              what a stop says of the tape
 use Rattle.std.specs.Prelude.{◌≡◌, ◌≢◌, ℕ, ◌<◌, Bool, false, List, length, Some, None, IsTrue}
-use Rattle.mb_outside.specs.Cause.{Rose}
+use Rattle.mb_stream.specs.Puts.{Put}
 use Rattle.mb_outside.specs.Contents.{Contents}
 use Rattle.mb_merge.specs.Links.{Merger}
 use Rattle.mb_rig.specs.RigText.{Setup}
 use Rattle.mb_rig.specs.Link.{StopsAt}
 use Rattle.mb_rig.specs.Feed.{FeedFront, FeedStands}
-use Rattle.mb_rig.specs.Bay.{BayStands, HasRoom, KeepRoom, turn_key}
+use Rattle.mb_rig.specs.Bay.{BayBroke, BayStands, HasRoom, KeepRoom, turn_key}
 use Rattle.mb_rig.specs.Merging.Lines.{key_at}
 use Rattle.mb_rig.specs.Merging.Run.{AtMost}
 use Rattle.mb_rig.specs.Merging.Playing.{Play}
@@ -72,14 +74,17 @@ pub record StepStops {S : Type 0} (tells : Bool) (contents : S → Contents) (s 
   pub front : FeedFront tells contents f at (links_now.given x)
   pub others : OthersKeep m links b.router links_now x
 
--- of a stop that a link makes
-abbrev pub IfLink : RunStop → Type 0 → Type 0
-IfLink stop.WriteFault P = Unit {0}
-IfLink (stop.Link why) P = P
+pub record StepBroke {S : Type 0} (tells : Bool) (contents : S → Contents) (s : Setup) (before : List ℕ) (x : ℕ)
+    (f : Feed) (at : S) (links : Links) : Type 0 where
+  pub given : ℕ → List Put
+  pub broke : BayBroke tells contents s before at given
+  pub front : FeedFront tells contents f at (given x)
+  pub others : (y : ℕ) → y ≢ x → given y ≡ links.given y
 
-abbrev pub StopsBy : (tells : Bool) (read_faults reads_now write_faults writes_now limit : ℕ) (tape : List ℕ) →
-    RunStop → Type 0
-StopsBy tells reads reads_now writes writes_now limit tape stop.WriteFault =
-    Rose writes writes_now × (reads_now ≡ reads)
-StopsBy tells reads reads_now writes writes_now limit tape (stop.Link why) =
-    (IsTrue tells → StopsAt reads reads_now limit tape why) × (writes_now ≡ writes)
+abbrev pub ByStop : RunStop → Type 0 → Type 0 → Type 0
+ByStop stop.WriteFault P Q = Q
+ByStop (stop.Link why) P Q = P
+
+abbrev pub StopsBy : (tells : Bool) (limit : ℕ) (tape : List ℕ) → RunStop → Type 0
+StopsBy tells limit tape stop.WriteFault = Unit {0}
+StopsBy tells limit tape (stop.Link why) = IsTrue tells → StopsAt limit tape why

@@ -5,6 +5,7 @@
 --   front_of s                  the next byte, if one is at hand
 --   Drew handle old more new    these bytes were taken off a handle, and nothing else of the desk changed
 --   IsLent s contents bytes     what was taken off the handle is what was handed out and what is at hand
+--   IsCounted s contents        as much was taken off the handle as is counted, and no more than may be
 use Rattle.std.specs.Prelude.{◌≡◌, ℕ, ◌≤◌, true, List, [], ◌++◌, length, take}
 use Rattle.mb_outside.specs.Cause.{Rose}
 use Rattle.mb_outside.specs.Contents.{Contents, after_read, is_readable}
@@ -35,3 +36,7 @@ DryBy was now count limit dry.TooLong = (count ≡ limit) × (now ≡ was)
 pub record IsLent (s : SupplyValue) (c : Contents) (bytes : List ℕ) : Type 0 where
   pub readable : is_readable c s.handle ≡ true
   pub taken : c.taken s.handle ≡ bytes ++ s.ahead
+
+pub record IsCounted (s : SupplyValue) (c : Contents) : Type 0 where
+  pub count : length (c.taken s.handle) ≡ s.count
+  pub within : s.count ≤ s.limit

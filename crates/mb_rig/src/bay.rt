@@ -1,22 +1,29 @@
 //! Where marks pass: the router, and the outs behind it.
 
-ghost use Rattle.std.specs.Prelude.{◌≡◌, ◌≤◌, ◌<◌, ℕ, List, length, Option, OnOk, IfOk, IsTrue, true, false, slice_set};
+ghost use Rattle.std.specs.Prelude.{◌≡◌, ◌≤◌, ◌<◌, ℕ, List, length, Option, OnErr, OnOk, IfOk, IsTrue, true, false};
+ghost use Rattle.std.specs.Prelude.{slice_set};
+ghost use Rattle.mb_message.specs.Signs.{sign_of};
 ghost use Rattle.mb_outside.specs.Cause.{HasCause};
 ghost use Rattle.mb_rig.specs.RigText.{Setup};
 ghost use Rattle.mb_rig.specs.Merging.Lines.{is_below};
 ghost use Rattle.mb_rig.specs.Merging.Playing.{Play};
 ghost use Rattle.mb_rig.specs.Merging.Run.{AtMost};
-ghost use Rattle.mb_rig.specs.Merging.Course.{Links, greater};
-ghost use Rattle.mb_rig.specs.Bay.{BayEnds, BayGoes, BayStands, BayWrote, HandedOn, MayHand, OffersOf, turn_key};
+ghost use Rattle.mb_rig.specs.Merging.Course.{Links, gives, greater};
+ghost use Rattle.mb_rig.specs.Bay.{BayBroke, BayEnds, BayGoes, BayStands, BayWrote, HandedOn, MayHand, OffersOf};
+ghost use Rattle.mb_rig.specs.Bay.{turn_key};
+ghost use Rattle.mb_rig.specs.Beginning.{BayBegins};
+ghost use Rattle.mb_rig.specs.Right.{IsRig};
 
 use crate::outlet::Outlet;
 use crate::outs::{finish_all, flush_all};
 use crate::passing::pass;
+use crate::rig::Rig;
 use crate::turn::Turn;
 use arrayvec::ArrayVec;
 use mb_merge::{Passed, Router};
-use mb_message::Mark;
+use mb_message::{Mark, Memory};
 use mb_outside::{Desk, Refused};
+use std::alloc::Global;
 
 /// The outs of a rig.
 pub(crate) type Outlets = ArrayVec<Outlet, 16>;
@@ -31,6 +38,25 @@ pub(crate) struct Bay {
 }
 
 impl Bay {
+    /// The router of a rig, which has no out yet. `Memory` is for want of memory alone, since a rig's routes are right.
+    pub(crate) fn new(alloc: Global, rig: &Rig) -> Result<Bay, Memory>
+        ensures right { IsRig rig.now }
+        ensures begins { IfOk result (BayBegins rig.now) }
+    {
+        let routes = rig.routes();
+        let links = rig.ins().len() as u8;
+        let outs = rig.outs().len() as u8;
+        match Router::open(alloc, links, outs, routes) {
+            Ok(router) => Ok(Bay {
+                router,
+                outs: Outlets::new(),
+                stalled: [false; 16],
+                greatest: Turn { link: 0, moment: 0 },
+            }),
+            Err(_) => Err(Memory),
+        }
+    }
+
     /// A step of a link begins, whose key is the least of those that may step.
     pub(crate) fn begin(&mut self, turn: Turn)
         ensures greatest { turn_key self.new.greatest ≡ greater (turn_key self.old.greatest) (turn_key turn) }
@@ -57,6 +83,10 @@ impl Bay {
             (play : Play) → BayStands D.tells D.contents s before first self.old desk.old links play →
             MayHand s self.old links link moment mark →
             HandedOn D.tells D.contents s before first self.old self.new desk.new links link moment mark play taken) }
+        ensures broke { OnErr result ((s : Setup) (before : List ℕ) (first : ℕ) (links : Links) (play : Play) →
+            BayStands D.tells D.contents s before first self.old desk.old links play →
+            MayHand s self.old links link moment mark →
+            BayBroke D.tells D.contents s before desk.new (gives links link moment (sign_of mark)).given) }
         ensures greatest { self.new.greatest ≡ self.old.greatest }
         ensures outs { length self.new.outs.items ≡ length self.old.outs.items }
         ensures wrote { (s : Setup) (before : List ℕ) (first : ℕ) (links : Links) (play : Play) →
@@ -86,6 +116,9 @@ impl Bay {
         ensures goes { OnOk result ((s : Setup) (before : List ℕ) (first : ℕ) (links : Links) (play : Play) (x : ℕ) →
             BayStands D.tells D.contents s before first self.old desk.old links play → OffersOf self.old.router x →
             BayGoes D.tells D.contents s before first self.old self.new desk.new links x links.given) }
+        ensures broke { OnErr result ((s : Setup) (before : List ℕ) (first : ℕ) (links : Links) (play : Play) (x : ℕ) →
+            BayStands D.tells D.contents s before first self.old desk.old links play → OffersOf self.old.router x →
+            BayBroke D.tells D.contents s before desk.new links.given) }
         ensures greatest { self.new.greatest ≡ self.old.greatest }
         ensures outs { length self.new.outs.items ≡ length self.old.outs.items }
         ensures wrote { (s : Setup) (before : List ℕ) (first : ℕ) (links : Links) (play : Play) →
@@ -117,6 +150,9 @@ impl Bay {
         ensures stalled { self.new.stalled ≡ self.old.stalled }
         ensures greatest { self.new.greatest ≡ self.old.greatest }
         ensures outs { length self.new.outs.items ≡ length self.old.outs.items }
+        ensures report { (s : Setup) (before : List ℕ) (first : ℕ) (links : Links) (play : Play) →
+            BayStands D.tells D.contents s before first self.old desk.old links play → IsTrue D.tells →
+            (D.contents desk.new).written 1 ≡ (D.contents desk.old).written 1 }
         ensures wrote { (s : Setup) (before : List ℕ) (first : ℕ) (links : Links) (play : Play) →
             BayStands D.tells D.contents s before first self.old desk.old links play →
             BayWrote D.tells D.contents first (length self.old.outs.items) desk.old desk.new }
@@ -134,6 +170,9 @@ impl Bay {
         ensures ended { OnOk result ((s : Setup) (before : List ℕ) (first : ℕ) (links : Links) (play : Play) →
             BayStands D.tells D.contents s before first self.old desk.old links play →
             BayEnds D.tells D.contents s before first desk.new play) }
+        ensures report { (s : Setup) (before : List ℕ) (first : ℕ) (links : Links) (play : Play) →
+            BayStands D.tells D.contents s before first self.old desk.old links play → IsTrue D.tells →
+            (D.contents desk.new).written 1 ≡ (D.contents desk.old).written 1 }
         ensures wrote { (s : Setup) (before : List ℕ) (first : ℕ) (links : Links) (play : Play) →
             BayStands D.tells D.contents s before first self.old desk.old links play →
             BayWrote D.tells D.contents first (length self.old.outs.items) desk.old desk.new }

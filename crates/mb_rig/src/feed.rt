@@ -4,10 +4,11 @@ ghost use Rattle.std.specs.Prelude.{◌≡◌, ℕ, ◌+◌, ◌<◌, ◌≤◌,
 ghost use Rattle.std.specs.Prelude.{IfOk, IfErr, OnOk, OnSome};
 ghost use Rattle.mb_stream.specs.Puts.{Put};
 ghost use Rattle.mb_rig.specs.RigText.{Setup};
+ghost use Rattle.mb_rig.specs.Causes.{LinkCause, StopCause};
 ghost use Rattle.mb_rig.specs.Link.{LinkStands, StopsAt, TookFrom};
 ghost use Rattle.mb_rig.specs.Feed.{FeedFront, FeedGoes, FeedStands, IsSameLink, feed_owed, key_by};
 ghost use Rattle.mb_rig.specs.Running.{RunTouched};
-ghost use Rattle.mb_rig.specs.Step.{IfLink, StepEnds, StepMay, StepStops, StepUnder, StopsBy};
+ghost use Rattle.mb_rig.specs.Step.{ByStop, StepBroke, StepEnds, StepMay, StepStops, StepUnder, StopsBy};
 ghost use Rattle.mb_rig.specs.Merging.Lines.{Key};
 ghost use Rattle.mb_rig.specs.Merging.Playing.{Play};
 ghost use Rattle.mb_rig.specs.Merging.Course.{Links};
@@ -16,6 +17,7 @@ use crate::bay::Bay;
 use crate::heard::Heard;
 use crate::link::{Link, LinkStop};
 use crate::turn::Turn;
+use mb_carrier::Spec;
 use mb_message::Mark;
 use mb_outside::Desk;
 
@@ -35,43 +37,58 @@ pub(crate) struct Feed {
     pub(crate) waiting: Option<Mark>,
 }
 
+impl Default for Feed {
+    /// A link that reads nothing, in an unused place of a row.
+    fn default() -> Feed {
+        Feed::new(Link::new(0, 0, Spec::Din, 0))
+    }
+}
+
 impl Feed {
-    /// A link of which nothing was heard, and the moment of its first record. A mark ahead of any record, which no tape
-    /// has, would wait.
-    pub(crate) fn open<D: Desk>(mut link: Link, desk: &mut D) -> Result<Feed, LinkStop>
-        requires stands { LinkStands D.tells D.contents link desk.old [] }
-        ensures stands { IfOk result (λ feed. (x : ℕ) →
-            FeedStands D.tells D.contents x feed desk.new (key_by x feed.record) []) }
-        ensures same { IfOk result (λ feed. IsSameLink link feed.link) }
+    /// A link of which nothing was heard.
+    pub(crate) fn new(link: Link) -> Feed
+        ensures link { result.link ≡ link }
+        ensures unread { result.record ≡ None }
+        ensures unwaited { result.waiting ≡ None }
+    {
+        Feed {
+            link,
+            record: None,
+            waiting: None,
+        }
+    }
+
+    /// Reads on to the first record. A mark ahead of any record, which no tape has, would wait.
+    pub(crate) fn start<D: Desk>(&mut self, desk: &mut D) -> Result<(), LinkStop>
+        requires stands { LinkStands D.tells D.contents self.old.link desk.old [] }
+        ensures stands { OnOk result ((x : ℕ) →
+            FeedStands D.tells D.contents x self.new desk.new (key_by x self.new.record) []) }
+        ensures front { FeedFront D.tells D.contents self.new desk.new [] }
+        ensures same { IsSameLink self.old.link self.new.link }
         ensures stops { IfErr result (λ stop. IsTrue D.tells →
-            StopsAt (D.read_faults desk.old) (D.read_faults desk.new) link.supply.limit
-            ((D.contents desk.new).taken link.supply.handle) stop) }
+            StopsAt self.old.link.supply.limit ((D.contents desk.new).taken self.old.link.supply.handle) stop) }
+        ensures cause { IfErr result (LinkCause (D.read_faults desk.old) (D.read_faults desk.new)) }
         ensures took { IsTrue D.tells →
-            TookFrom link.supply.handle (D.contents desk.old) (D.contents desk.new) }
+            TookFrom self.old.link.supply.handle (D.contents desk.old) (D.contents desk.new) }
         ensures sound { OnOk result (D.read_faults desk.new ≡ D.read_faults desk.old) }
         ensures write_faults { D.write_faults desk.new ≡ D.write_faults desk.old }
     {
-        match link.next(desk) {
+        self.record = None;
+        self.waiting = None;
+        match self.link.next(desk) {
             Ok(Some(heard)) => match heard {
-                Heard::Record { moment } => Ok(Feed {
-                    link,
-                    record: Some(moment),
-                    waiting: None,
-                }),
-                Heard::Mark(mark) => {
-                    let moment = link.reader.moment();
-                    Ok(Feed {
-                        link,
-                        record: Some(moment),
-                        waiting: Some(mark),
-                    })
+                Heard::Record { moment: first } => {
+                    self.record = Some(first);
+                    Ok(())
+                }
+                Heard::Mark(ahead) => {
+                    let first = self.link.reader.moment();
+                    self.record = Some(first);
+                    self.waiting = Some(ahead);
+                    Ok(())
                 }
             },
-            Ok(None) => Ok(Feed {
-                link,
-                record: None,
-                waiting: None,
-            }),
+            Ok(None) => Ok(()),
             Err(stop) => Err(stop),
         }
     }
@@ -86,8 +103,7 @@ impl Feed {
             FeedGoes D.tells D.contents x self.old self.new desk.new present given moment mark) }
         ensures stops { IfErr result (λ stop. (x : ℕ) (present : Option Key) (given : List Put) →
             FeedStands D.tells D.contents x self.old desk.old present given → IsTrue D.tells →
-            StopsAt (D.read_faults desk.old) (D.read_faults desk.new) self.old.link.supply.limit
-            ((D.contents desk.new).taken self.old.link.supply.handle) stop) }
+            StopsAt self.old.link.supply.limit ((D.contents desk.new).taken self.old.link.supply.handle) stop) }
         ensures front { (x : ℕ) (present : Option Key) (given : List Put) →
             FeedStands D.tells D.contents x self.old desk.old present given →
             FeedFront D.tells D.contents self.new desk.new given }
@@ -95,6 +111,7 @@ impl Feed {
         ensures owed { OnOk result (feed_owed self.new < feed_owed self.old) }
         ensures owed_by_mark { IfOk result (λ mark. OnSome mark
             (self.old.waiting ≡ None → feed_owed self.new + 2 ≤ feed_owed self.old)) }
+        ensures cause { IfErr result (LinkCause (D.read_faults desk.old) (D.read_faults desk.new)) }
         ensures took { IsTrue D.tells →
             TookFrom self.old.link.supply.handle (D.contents desk.old) (D.contents desk.new) }
         ensures sound { OnOk result (D.read_faults desk.new ≡ D.read_faults desk.old) }
@@ -136,10 +153,12 @@ impl Feed {
         ensures stops { IfErr result (λ stop. (s : Setup) (before : List ℕ) (first : ℕ) (links : Links)
             (play : Play) →
             StepMay D.tells D.contents s before first turn.link turn.moment self.old bay.old desk.old links play →
-            IfLink stop (StepStops D.tells D.contents s before first turn.link bay.old.router self.new bay.new desk.new
-            links) × StopsBy D.tells (D.read_faults desk.old) (D.read_faults desk.new) (D.write_faults desk.old)
-            (D.write_faults desk.new) self.old.link.supply.limit
+            ByStop stop (StepStops D.tells D.contents s before first turn.link bay.old.router self.new bay.new desk.new
+            links) (StepBroke D.tells D.contents s before turn.link self.new desk.new links)
+            × StopsBy D.tells self.old.link.supply.limit
             ((D.contents desk.new).taken self.old.link.supply.handle) stop) }
+        ensures cause { IfErr result (StopCause (D.read_faults desk.old) (D.read_faults desk.new)
+            (D.write_faults desk.old) (D.write_faults desk.new)) }
         ensures touched { (s : Setup) (before : List ℕ) (first : ℕ) (links : Links) (play : Play) →
             StepMay D.tells D.contents s before first turn.link turn.moment self.old bay.old desk.old links play →
             RunTouched D.tells D.contents self.old.link.supply.handle 1 first (length bay.old.outs.items)
@@ -170,10 +189,12 @@ impl Feed {
         ensures stops { IfErr result (λ stop. (s : Setup) (before : List ℕ) (first : ℕ) (links : Links)
             (play : Play) →
             StepUnder D.tells D.contents s before first turn.link turn.moment self.old bay.old desk.old links play →
-            IfLink stop (StepStops D.tells D.contents s before first turn.link bay.old.router self.new bay.new desk.new
-            links) × StopsBy D.tells (D.read_faults desk.old) (D.read_faults desk.new) (D.write_faults desk.old)
-            (D.write_faults desk.new) self.old.link.supply.limit
+            ByStop stop (StepStops D.tells D.contents s before first turn.link bay.old.router self.new bay.new desk.new
+            links) (StepBroke D.tells D.contents s before turn.link self.new desk.new links)
+            × StopsBy D.tells self.old.link.supply.limit
             ((D.contents desk.new).taken self.old.link.supply.handle) stop) }
+        ensures cause { IfErr result (StopCause (D.read_faults desk.old) (D.read_faults desk.new)
+            (D.write_faults desk.old) (D.write_faults desk.new)) }
         ensures touched { (s : Setup) (before : List ℕ) (first : ℕ) (links : Links) (play : Play) →
             StepUnder D.tells D.contents s before first turn.link turn.moment self.old bay.old desk.old links play →
             RunTouched D.tells D.contents self.old.link.supply.handle 1 first (length bay.old.outs.items)

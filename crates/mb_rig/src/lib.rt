@@ -1,5 +1,4 @@
-//! Rigs: which ports of which tapes are merged into which outs. So far their text, and parts of a run that nothing
-//! joins yet.
+//! Rigs: which ports of which tapes are merged into which outs, and how they are run.
 #![tactic(auto)]
 
 mod bay;
@@ -22,8 +21,10 @@ mod steps;
 mod supply;
 mod turn;
 
+pub use ending::RigEnd;
 pub use fault::{RigFault, Why};
 pub use name::{Name, Port};
 pub use rig::Rig;
+pub use run::run_rig;
 
 pub mod laws;

@@ -9,7 +9,8 @@ ghost use Rattle.mb_carrier.specs.Word.{IsSpec};
 ghost use Rattle.mb_track.specs.Track.{track_end, track_whole};
 ghost use Rattle.mb_track.specs.TrackReading.{TrackTold, track_moment, track_of, track_owed, track_spec};
 ghost use Rattle.mb_rig.specs.Heard.{HeardAt, IfNothing, MomentKept, heard_fault, heard_signs, signs_heard};
-ghost use Rattle.mb_rig.specs.Supply.{front_of};
+ghost use Rattle.mb_rig.specs.Supply.{IsCounted, front_of};
+ghost use Rattle.mb_rig.specs.Causes.{LinkCause};
 ghost use Rattle.mb_rig.specs.Link.{LinkEnds, LinkHeard, LinkReads, LinkRests, LinkStands, StopsAt, TookFrom};
 ghost use Rattle.mb_rig.specs.Link.{link_owed};
 
@@ -81,10 +82,12 @@ impl Link {
             (told ++ puts_at (track_moment self.new.reader) (signs_heard heard))) }
         ensures stops { IfErr result (λ stop. (told : List Put) →
             LinkStands D.tells D.contents self.old desk.old told → IsTrue D.tells →
-            StopsAt (D.read_faults desk.old) (D.read_faults desk.new) self.old.supply.limit
-            ((D.contents desk.new).taken self.old.supply.handle) stop) }
+            StopsAt self.old.supply.limit ((D.contents desk.new).taken self.old.supply.handle) stop) }
+        ensures cause { IfErr result (LinkCause (D.read_faults desk.old) (D.read_faults desk.new)) }
         ensures took { IsTrue D.tells →
             TookFrom self.old.supply.handle (D.contents desk.old) (D.contents desk.new) }
+        ensures counted { (told : List Put) → LinkStands D.tells D.contents self.old desk.old told →
+            IsTrue D.tells → IsCounted self.new.supply (D.contents desk.new) }
         ensures sound { OnOk result (D.read_faults desk.new ≡ D.read_faults desk.old) }
         ensures write_faults { D.write_faults desk.new ≡ D.write_faults desk.old }
     {

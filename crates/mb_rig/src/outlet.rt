@@ -20,6 +20,16 @@ pub(crate) struct Outlet {
     pub(crate) writer: PortWriter,
 }
 
+impl Default for Outlet {
+    /// An out of a byte line, in an unused place of a row.
+    fn default() -> Outlet {
+        Outlet {
+            handle: 0,
+            writer: PortWriter::default(),
+        }
+    }
+}
+
 impl Outlet {
     /// Writes what a mark is written as now, its moment being in milliseconds.
     pub(crate) fn put<D: Desk>(

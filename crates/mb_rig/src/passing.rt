@@ -1,12 +1,14 @@
 //! The passing of a mark.
 
-ghost use Rattle.std.specs.Prelude.{◌≡◌, ◌≤◌, ◌/◌, ℕ, List, length, map, OnOk};
+ghost use Rattle.std.specs.Prelude.{◌≡◌, ◌≤◌, ◌/◌, ◌++◌, ℕ, List, length, map, IsTrue, OnErr, OnOk};
+ghost use Rattle.mb_message.specs.Front.{IsFront};
 ghost use Rattle.mb_message.specs.Signs.{sign_of};
 ghost use Rattle.mb_stream.specs.Puts.{Put, At};
 ghost use Rattle.mb_outside.specs.Cause.{HasCause};
 ghost use Rattle.mb_rig.specs.Outlet.{outlet_spec};
 ghost use Rattle.mb_rig.specs.Outs.{AllSuit, OutsStand, pass_puts};
 ghost use Rattle.mb_rig.specs.PassedOn.{PassedOn};
+ghost use Rattle.mb_rig.specs.PassingLine.{passing_text};
 ghost use Rattle.mb_rig.specs.Bay.{BayWrote};
 
 use crate::outlet::Outlet;
@@ -35,6 +37,10 @@ pub(crate) fn pass<D: Desk>(
     ensures passed { OnOk result ((first : ℕ) (putss : List (List Put)) →
         OutsStand D.tells D.contents first outs.old desk.old putss →
         PassedOn D.tells D.contents D.read_faults first (length outs.old) moment passed desk.old desk.new) }
+    ensures part { OnErr result ((first : ℕ) (putss : List (List Put)) → 3 ≤ first →
+        OutsStand D.tells D.contents first outs.old desk.old putss → IsTrue D.tells →
+        (front : List ℕ) × IsFront front (passing_text moment passed)
+        × ((D.contents desk.new).written 1 ≡ (D.contents desk.old).written 1 ++ front)) }
     ensures wrote { (first : ℕ) (putss : List (List Put)) → 3 ≤ first →
         OutsStand D.tells D.contents first outs.old desk.old putss →
         BayWrote D.tells D.contents first (length outs.old) desk.old desk.new }

@@ -59,7 +59,8 @@ impl Rig {
 
     /// The routes, each from the place of a link to the place of an out.
     pub fn routes(&self) -> &[(u8, u8)]
-        ensures { result.now ≡ self.now.routes }
+        ensures routes { result.now ≡ self.now.routes }
+        ensures right { IsRig self.now }
     {
         self.draft.routes()
     }

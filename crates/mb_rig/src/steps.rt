@@ -1,20 +1,52 @@
 //! A rig's run: steps of its links, least key first.
 
-ghost use Rattle.std.specs.Prelude.{◌≡◌, ◌≤◌, ℕ, List, Option, Some, length, slice_get, slice_index_or, OnOk, IfErr, false};
+ghost use Rattle.std.specs.Prelude.{◌≡◌, ◌≤◌, ℕ, List, Option, Some, length, slice_get, slice_index_or, OnOk, IfErr};
+ghost use Rattle.std.specs.Prelude.{IsTrue, false};
 ghost use Rattle.mb_rig.specs.RigText.{Setup};
 ghost use Rattle.mb_rig.specs.Merging.Course.{Links};
 ghost use Rattle.mb_rig.specs.Merging.Playing.{Play};
-ghost use Rattle.mb_rig.specs.Running.{HaltsBy, IfLinkEnd, RunOver, RunStands, RunStopped, RunTouched, turn_at};
+ghost use Rattle.mb_rig.specs.Beginning.{FeedsHalted, FeedsReady, FeedsStarted};
+ghost use Rattle.mb_rig.specs.Causes.{EndCause};
+ghost use Rattle.mb_rig.specs.Running.{ByEnd, HaltsBy, RunBroken, RunOver, RunStands, RunStopped, RunTouched, turn_at};
 ghost use Rattle.mb_rig.specs.declared.feed.Feed.{Feed};
 
 use crate::bay::Bay;
 use crate::ending::{RigEnd, end_of};
-use crate::feed::Feed;
+use crate::feed::{Feed, RunStop};
 use crate::turn::turn_of;
 use arrayvec::ArrayVec;
 use mb_outside::Desk;
 
 type Turns = ArrayVec<Option<u64>, 16>;
+
+/// Each tape is read to its first record, in the order of the links.
+pub(crate) fn start_feeds<D: Desk>(feeds: &mut [Feed], desk: &mut D) -> Result<(), RigEnd>
+    requires few { length feeds.old ≤ 16 }
+    requires ready { (s : Setup) × (base limit : ℕ) × FeedsReady D.tells D.contents s base limit feeds.old desk.old }
+    ensures starts { OnOk result ((s : Setup) (base limit : ℕ) →
+        FeedsReady D.tells D.contents s base limit feeds.old desk.old →
+        FeedsStarted D.tells D.contents s base limit feeds.new desk.new) }
+    ensures stops { IfErr result (λ end. (s : Setup) (base limit : ℕ) →
+        FeedsReady D.tells D.contents s base limit feeds.old desk.old →
+        FeedsHalted D.tells D.contents s base limit feeds.new desk.new
+        × HaltsBy D.tells s base limit (D.contents desk.new) end) }
+    ensures cause { IfErr result (EndCause (D.read_faults desk.old) (D.read_faults desk.new) (D.write_faults desk.old)
+        (D.write_faults desk.new)) }
+    ensures touched { (s : Setup) (base limit first outs : ℕ) →
+        FeedsReady D.tells D.contents s base limit feeds.old desk.old →
+        RunTouched D.tells D.contents base (length feeds.old) first outs desk.old desk.new }
+    ensures many { length feeds.new ≡ length feeds.old }
+    ensures report { IsTrue D.tells → (D.contents desk.new).written ≡ (D.contents desk.old).written }
+    ensures read_faults { OnOk result (D.read_faults desk.new ≡ D.read_faults desk.old) }
+    ensures write_faults { D.write_faults desk.new ≡ D.write_faults desk.old }
+{
+    'links: for at in 0..feeds.len() {
+        if let Err(stop) = feeds[at].start(desk) {
+            return Err(end_of(at, RunStop::Link(stop)));
+        }
+    }
+    Ok(())
+}
 
 /// Links step, the one of the least key first, until none has a record.
 pub(crate) fn run_steps<D: Desk>(
@@ -30,9 +62,11 @@ pub(crate) fn run_steps<D: Desk>(
     ensures stops { IfErr result (λ end. (s : Setup) (before : List ℕ) (base first limit : ℕ) (links : Links)
         (play : Play) →
         RunStands D.tells D.contents s before base first limit feeds.old bay.old desk.old links play →
-        IfLinkEnd end (RunStopped D.tells D.contents s before base first limit feeds.new bay.new desk.new)
-        × HaltsBy D.tells s base limit (D.read_faults desk.old) (D.read_faults desk.new) (D.write_faults desk.old)
-        (D.write_faults desk.new) (D.contents desk.new) end) }
+        ByEnd end (RunStopped D.tells D.contents s before base first limit feeds.new bay.new desk.new)
+        (RunBroken D.tells D.contents s before base limit feeds.new desk.new)
+        × HaltsBy D.tells s base limit (D.contents desk.new) end) }
+    ensures cause { IfErr result (EndCause (D.read_faults desk.old) (D.read_faults desk.new) (D.write_faults desk.old)
+        (D.write_faults desk.new)) }
     ensures touched { (s : Setup) (before : List ℕ) (base first limit : ℕ) (links : Links) (play : Play) →
         RunStands D.tells D.contents s before base first limit feeds.old bay.old desk.old links play →
         RunTouched D.tells D.contents base (length feeds.old) first (length bay.old.outs.items) desk.old desk.new }

@@ -1,10 +1,10 @@
 //! A handle to read, piece by piece, up to a limit.
 
-ghost use Rattle.std.specs.Prelude.{◌≡◌, ◌≢◌, ◌↔◌, ℕ, ◌+◌, ◌≤◌, true, false, List, [], ◌++◌, drop, length, IsTrue};
+ghost use Rattle.std.specs.Prelude.{◌≡◌, ◌≢◌, ◌↔◌, ℕ, ◌+◌, ◌<◌, ◌≤◌, true, false, List, [], ◌++◌, drop, length, IsTrue};
 ghost use Rattle.std.specs.Prelude.{IfOk, IfErr, OnOk, OnErr, Ok};
 ghost use Rattle.mb_outside.specs.Cause.{HasCause};
 ghost use Rattle.mb_outside.specs.Contents.{is_readable};
-ghost use Rattle.mb_rig.specs.Supply.{Drew, DryBy, front_of};
+ghost use Rattle.mb_rig.specs.Supply.{Drew, DryBy, IsCounted, front_of};
 
 use mb_outside::Desk;
 use std::marker::Model;
@@ -96,6 +96,7 @@ impl Supply {
         ensures limit { self.new.limit ≡ self.old.limit }
         ensures count { self.new.count ≡ self.old.count + length self.new.ahead }
         ensures within { self.new.count ≤ self.new.limit }
+        ensures below { OnOk result (self.old.count < self.old.limit) }
         ensures drew { OnOk result (IsTrue D.tells →
             Drew self.old.handle (D.contents desk.old) self.new.ahead (D.contents desk.new)) }
         ensures more { IfOk result (λ more. IsTrue more ↔ (self.new.ahead ≢ [])) }
@@ -105,6 +106,7 @@ impl Supply {
         ensures err { OnErr result ((self.new.ahead ≡ []) ×
             (IsTrue D.tells → D.contents desk.new ≡ D.contents desk.old)) }
         ensures sound { OnOk result (D.read_faults desk.new ≡ D.read_faults desk.old) }
+        ensures later { D.read_faults desk.old ≤ D.read_faults desk.new }
         ensures write_faults { D.write_faults desk.new ≡ D.write_faults desk.old }
     {
         if self.count >= self.limit {

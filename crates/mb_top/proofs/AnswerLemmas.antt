@@ -6,15 +6,16 @@ use Rattle.std.proofs.lemmas.Bool.Decides.{nat_tests}
 use Rattle.std.proofs.lemmas.List.{append-nil, take_at, drop_at}
 use Rattle.mb_outside.specs.Cause.{Rose}
 use Rattle.mb_outside.specs.Contents.{Contents, with_entry, after_read, after_write}
-use Rattle.mb_outside.specs.ContentsLaws.{after_write-none, after_write-twice, after_read-none}
+use Rattle.mb_outside.specs.ContentsLaws.{after_write-twice}
 use Rattle.mb_message.specs.Front.{IsFront}
 use Rattle.mb_carrier.specs.Carrier.{whole}
 use Rattle.mb_carrier.specs.declared.spec.Spec.{Spec}
 use Rattle.mb_words.specs.Command.{CommandOf, Command, Converting, Listing, Migrating, RecordingTape, PlayingFile}
-use Rattle.mb_words.specs.Command.{GuardingTape, FilteringTape, Selftesting, Means}
+use Rattle.mb_words.specs.Command.{GuardingTape, FilteringTape, RunningRig, Selftesting, Means}
 use Rattle.mb_words.proofs.CommandLemmas.{one_command}
 use Rattle.mb_top.specs.Output.{ReadsOne, reads_from, writes_to, may_want_memory, answers_notes, is_whole}
-use Rattle.mb_top.specs.Output.{fault_of, reads_file, reads_tape, takes_rules, tally_of, writes_at_stop, LeavesOut}
+use Rattle.mb_top.specs.Output.{fault_of, reads_file, reads_tape, runs_rig, takes_file, takes_rules, tally_of}
+use Rattle.mb_top.specs.Output.{writes_at_stop, LeavesOut}
 use Rattle.mb_top.specs.Output.{Shows, WantsMemory}
 use Rattle.mb_top.specs.Task.{Task, with_rules}
 use Rattle.mb_filter.specs.declared.rule.Rule.{Rule}
@@ -25,16 +26,18 @@ use Rattle.mb_top.proofs.TaskLemmas.{did-plain, memory-task, plain-reader, reade
 use Rattle.mb_smf.specs.declared.writer.SmfFull.{SmfFull}
 use Rattle.mb_smf.specs.declared.writer.SmfFull.TheVariants as full
 use Rattle.std.specs.Prelude.{Some, nat_le}
+use Rattle.arrayvec.specs.ArrayVec.{ArrayVec}
+use Rattle.mb_rig.specs.declared.fault.Why.{Why}
 use Rattle.mb_frames.specs.declared.tape.TapeFault.{TapeFault}
 use Rattle.mb_smf.specs.declared.fault.SmfFault.{SmfFault}
 use Rattle.mb_top.specs.declared.fault.Fault.{Fault}
 use Rattle.mb_top.specs.declared.fault.Fault.TheVariants as fault
 use Rattle.mb_top.specs.Answer.{Answered, Did, DidAll, DidNothing, IsHandle, Moved, EndsAs, Says, faults_told, taken_off}
 use Rattle.mb_top.specs.Answer.{added_to, code_of, text_of, read_all}
-use Rattle.mb_top.specs.Ran.{CommandMay, CommandRan, EndsCommand, RanNothing, RanWords, MayAnswer, MayAnswerWords}
+use Rattle.mb_top.specs.Ran.{CommandDid, CommandMay, CommandRan, DidWords, EndsCommand, RanNothing, RanWords, MayAnswer, MayAnswerWords}
 use Rattle.mb_top.specs.Ran.{Faulted, written_of}
 use Rattle.mb_top.specs.declared.status.Status.{Status}
-use Rattle.mb_top.specs.declared.status.Status.TheVariants.{Done, Noted, Usage, Cut, Stopped}
+use Rattle.mb_top.specs.declared.status.Status.TheVariants.{Done, Noted, Usage, Cut, Stopped, BadTape}
 use Rattle.mb_top.specs.declared.status.Stop.TheVariants.{ReadFault, Refused, TooLong, Faulty}
 use Rattle.mb_top.specs.declared.status.Stop.{Stop}
 use Rattle.mb_carrier.specs.Conversion.{through}
@@ -54,7 +57,7 @@ status_at n =
 
 -- the numbers that tell of a fault, and not of which
 abbrev pub tells_fault : ℕ → Bool
-tells_fault n = nat_le 7 n && not (n == 8)
+tells_fault n = nat_le 6 n && not (n == 8)
 
 again : (s : Status) → tells_fault (code_of s) ≡ false → status_at (code_of s) ≡ s
 again Done other = refl
@@ -69,6 +72,8 @@ again (Stopped (Faulty (fault.File f))) other = absurd (wrong other)
 again (Stopped (Faulty fault.LongTrack)) other = absurd (wrong other)
 again (Stopped (Faulty (fault.LongGap was now))) other = absurd (wrong other)
 again (Stopped (Faulty fault.Memory)) other = absurd (wrong other)
+again (Stopped (Faulty (fault.Rig line cause))) other = absurd (wrong other)
+again (BadTape name bad) other = absurd (wrong other)
 again (Stopped (Faulty (fault.Rules f))) other = absurd (wrong other)
 
 -- but for those of a fault, which are known too
@@ -76,8 +81,13 @@ pub same_status : (s t : Status) → tells_fault (code_of t) ≡ false → code_
 same_status s t other e =
     sym (again s (ap tells_fault e ∙ other)) ∙ (ap status_at e ∙ again t other)
 
-pub bad_tape : (s : Status) → code_of s ≡ 7 → (f : TapeFault) × (s ≡ Stopped (Faulty (fault.Tape f)))
-bad_tape (Stopped (Faulty (fault.Tape f))) e = (f, refl)
+-- of the tape on standard input, or of a rig's
+abbrev pub IsBadTape : Status → Type 0
+IsBadTape s = ((f : TapeFault) × (s ≡ Stopped (Faulty (fault.Tape f))))
+    ⊎ ((name : ArrayVec ℕ) × (f : TapeFault) × (s ≡ BadTape name f))
+
+pub bad_tape : (s : Status) → code_of s ≡ 7 → IsBadTape s
+bad_tape (Stopped (Faulty (fault.Tape f))) e = inl (f, refl)
 bad_tape (Stopped (Faulty (fault.File f))) e = absurd (omega (arith, e))
 bad_tape (Stopped ReadFault) e = absurd (omega (arith, e))
 bad_tape (Stopped Refused) e = absurd (omega (arith, e))
@@ -89,6 +99,8 @@ bad_tape Cut e = absurd (omega (arith, e))
 bad_tape (Stopped (Faulty fault.LongTrack)) e = absurd (omega (arith, e))
 bad_tape (Stopped (Faulty (fault.LongGap was now))) e = absurd (omega (arith, e))
 bad_tape (Stopped (Faulty fault.Memory)) e = absurd (omega (arith, e))
+bad_tape (Stopped (Faulty (fault.Rig line cause))) e = absurd (omega (arith, e))
+bad_tape (BadTape name bad) e = inr (name, bad, refl)
 bad_tape (Stopped (Faulty (fault.Rules g))) e = absurd (omega (arith, e))
 
 pub bad_file : (s : Status) → code_of s ≡ 13 → (f : SmfFault) × (s ≡ Stopped (Faulty (fault.File f)))
@@ -104,10 +116,14 @@ bad_file Cut e = absurd (omega (arith, e))
 bad_file (Stopped (Faulty fault.LongTrack)) e = absurd (omega (arith, e))
 bad_file (Stopped (Faulty (fault.LongGap was now))) e = absurd (omega (arith, e))
 bad_file (Stopped (Faulty fault.Memory)) e = absurd (omega (arith, e))
+bad_file (Stopped (Faulty (fault.Rig line cause))) e = absurd (omega (arith, e))
+bad_file (BadTape name bad) e = absurd (omega (arith, e))
 bad_file (Stopped (Faulty (fault.Rules g))) e = absurd (omega (arith, e))
 
 pub no_memory : (s : Status) → code_of s ≡ 9 → s ≡ Stopped (Faulty fault.Memory)
 no_memory (Stopped (Faulty fault.Memory)) e = refl
+no_memory (Stopped (Faulty (fault.Rig line cause))) e = absurd (omega (arith, e))
+no_memory (BadTape name bad) e = absurd (omega (arith, e))
 no_memory (Stopped (Faulty (fault.Tape f))) e = absurd (omega (arith, e))
 no_memory (Stopped (Faulty (fault.File f))) e = absurd (omega (arith, e))
 no_memory (Stopped (Faulty fault.LongTrack)) e = absurd (omega (arith, e))
@@ -126,6 +142,8 @@ long_track (Stopped (Faulty fault.LongTrack)) e = refl
 long_track (Stopped (Faulty (fault.Tape f))) e = absurd (omega (arith, e))
 long_track (Stopped (Faulty (fault.File f))) e = absurd (omega (arith, e))
 long_track (Stopped (Faulty fault.Memory)) e = absurd (omega (arith, e))
+long_track (Stopped (Faulty (fault.Rig line cause))) e = absurd (omega (arith, e))
+long_track (BadTape name bad) e = absurd (omega (arith, e))
 long_track (Stopped (Faulty (fault.Rules g))) e = absurd (omega (arith, e))
 long_track (Stopped (Faulty (fault.LongGap was now))) e = absurd (omega (arith, e))
 long_track (Stopped ReadFault) e = absurd (omega (arith, e))
@@ -142,6 +160,8 @@ long_gap (Stopped (Faulty (fault.LongGap was now))) e = (was, now, refl)
 long_gap (Stopped (Faulty (fault.Tape f))) e = absurd (omega (arith, e))
 long_gap (Stopped (Faulty (fault.File f))) e = absurd (omega (arith, e))
 long_gap (Stopped (Faulty fault.Memory)) e = absurd (omega (arith, e))
+long_gap (Stopped (Faulty (fault.Rig line cause))) e = absurd (omega (arith, e))
+long_gap (BadTape name bad) e = absurd (omega (arith, e))
 long_gap (Stopped (Faulty (fault.Rules g))) e = absurd (omega (arith, e))
 long_gap (Stopped (Faulty fault.LongTrack)) e = absurd (omega (arith, e))
 long_gap (Stopped ReadFault) e = absurd (omega (arith, e))
@@ -157,6 +177,8 @@ bad_rules (Stopped (Faulty (fault.Rules f))) e = (f, refl)
 bad_rules (Stopped (Faulty (fault.Tape g))) e = absurd (omega (arith, e))
 bad_rules (Stopped (Faulty (fault.File g))) e = absurd (omega (arith, e))
 bad_rules (Stopped (Faulty fault.Memory)) e = absurd (omega (arith, e))
+bad_rules (Stopped (Faulty (fault.Rig line cause))) e = absurd (omega (arith, e))
+bad_rules (BadTape name bad) e = absurd (omega (arith, e))
 bad_rules (Stopped (Faulty fault.LongTrack)) e = absurd (omega (arith, e))
 bad_rules (Stopped (Faulty (fault.LongGap was now))) e = absurd (omega (arith, e))
 bad_rules (Stopped ReadFault) e = absurd (omega (arith, e))
@@ -166,6 +188,24 @@ bad_rules Done e = absurd (omega (arith, e))
 bad_rules Noted e = absurd (omega (arith, e))
 bad_rules Usage e = absurd (omega (arith, e))
 bad_rules Cut e = absurd (omega (arith, e))
+
+pub bad_rig : (s : Status) → code_of s ≡ 6 →
+    (line : ℕ) × (cause : Why) × (s ≡ Stopped (Faulty (fault.Rig line cause)))
+bad_rig (Stopped (Faulty (fault.Rules f))) e = absurd (omega (arith, e))
+bad_rig (Stopped (Faulty (fault.Tape g))) e = absurd (omega (arith, e))
+bad_rig (Stopped (Faulty (fault.File g))) e = absurd (omega (arith, e))
+bad_rig (Stopped (Faulty fault.Memory)) e = absurd (omega (arith, e))
+bad_rig (Stopped (Faulty (fault.Rig line cause))) e = (line, cause, refl)
+bad_rig (BadTape name bad) e = absurd (omega (arith, e))
+bad_rig (Stopped (Faulty fault.LongTrack)) e = absurd (omega (arith, e))
+bad_rig (Stopped (Faulty (fault.LongGap was now))) e = absurd (omega (arith, e))
+bad_rig (Stopped ReadFault) e = absurd (omega (arith, e))
+bad_rig (Stopped Refused) e = absurd (omega (arith, e))
+bad_rig (Stopped TooLong) e = absurd (omega (arith, e))
+bad_rig Done e = absurd (omega (arith, e))
+bad_rig Noted e = absurd (omega (arith, e))
+bad_rig Usage e = absurd (omega (arith, e))
+bad_rig Cut e = absurd (omega (arith, e))
 
 pub other_status : (s t : Status) → (code_of s ≡ code_of t → ⊥) → s ≡ t → ⊥
 other_status s t other e = other (ap code_of e)
@@ -180,6 +220,8 @@ at_the_end claim done noted cut Usage e = absurd (wrong (sym e))
 at_the_end claim done noted cut (Stopped (Faulty fault.LongTrack)) e = absurd (wrong (sym e))
 at_the_end claim done noted cut (Stopped (Faulty (fault.LongGap was now))) e = absurd (wrong (sym e))
 at_the_end claim done noted cut (Stopped (Faulty fault.Memory)) e = absurd (wrong (sym e))
+at_the_end claim done noted cut (Stopped (Faulty (fault.Rig line cause))) e = absurd (wrong (sym e))
+at_the_end claim done noted cut (BadTape name bad) e = absurd (wrong (sym e))
 at_the_end claim done noted cut (Stopped (Faulty (fault.Rules f))) e = absurd (wrong (sym e))
 at_the_end claim done noted cut (Stopped ReadFault) e = absurd (wrong (sym e))
 at_the_end claim done noted cut (Stopped Refused) e = absurd (wrong (sym e))
@@ -345,6 +387,7 @@ only_writes (RecordingTape s) handle e = e
 only_writes PlayingFile handle e = e
 only_writes (GuardingTape s) handle e = e
 only_writes (FilteringTape rules s) handle e = e
+only_writes (RunningRig file) handle e = e
 only_writes (Selftesting start count) handle e = e
 
 unread : (input : List ℕ) (handle : ℕ) → (handle == 0) ≡ false → seen_at input handle ≡ []
@@ -367,6 +410,7 @@ unread-by (RecordingTape s) input handle none e = unread input handle e
 unread-by PlayingFile input handle none e = unread input handle e
 unread-by (GuardingTape s) input handle none e = unread input handle e
 unread-by (FilteringTape rules s) input handle none e = unread input handle e
+unread-by (RunningRig file) input handle none e = none-read input handle (none refl)
 unread-by (Selftesting start count) input handle none e = none-read input handle (none refl)
 
 unwritten : (output words : List ℕ) (handle : ℕ) → ((handle == 1) || (handle == 2)) ≡ false →
@@ -395,20 +439,52 @@ written-behind : (input output tally text : List ℕ) (before : Contents) →
 written-behind input output tally text before = after_write-twice 2 tally text
     (after_write 1 output (after_read 0 (length input) before))
 
-pub answered : (quiet : Type 0) (words : List (List ℕ)) (limit : ℕ) (before mid after : Contents)
+-- how many faults a status tells: one where writing was refused
+by_told : (s : Status) → (s ≡ Stopped Refused) ⊎ (faults_told s ≡ 0)
+by_told Done = inr refl
+by_told Noted = inr refl
+by_told Usage = inr refl
+by_told Cut = inr refl
+by_told (BadTape name bad) = inr refl
+by_told (Stopped ReadFault) = inr refl
+by_told (Stopped Refused) = inl refl
+by_told (Stopped TooLong) = inr refl
+by_told (Stopped (Faulty f)) = inr refl
+
+rose-more : (quiet : Type 0) (before mid now : ℕ) (s : Status) (reads reads_mid : ℕ) →
+    Faulted quiet reads reads_mid before mid s → Rose mid now → Rose (before + faults_told s) now
+rose-more quiet before mid now s reads reads_mid f r = elim (by_told s) [
+  | inl e ↦ (let one : faults_told s ≡ 1 = ap faults_told e in omega (arith, r, f.write e, one))
+  | inr none ↦ omega (arith, r, f.writes_later, none)
+]
+
+pub says-earlier : (quiet : Type 0) (before mid now : ℕ) (s : Status) (text : List ℕ) (reads reads_mid : ℕ) →
+    Faulted quiet reads reads_mid before mid s → Says (Rose mid now) text (text_of s) →
+    Says (Rose (before + faults_told s) now) text (text_of s)
+says-earlier quiet before mid now s text reads reads_mid f says =
+    record {
+      front = says.front;
+      all = elim says.all [
+        | inl e ↦ inl e
+        | inr r ↦ inr (rose-more quiet before mid now s reads reads_mid f r)
+      ];
+    }
+
+pub answered-stream : (quiet : Type 0) (words : List (List ℕ)) (limit : ℕ) (before mid after : Contents)
     (reads reads_mid faults faults_mid faults_now : ℕ) (status : Status) (answer : ℕ) (text : List ℕ) →
     answer ≡ code_of status → RanWords words limit before mid status →
     Faulted quiet reads reads_mid faults faults_mid status → after ≡ after_write 2 text mid →
     Says (Rose faults_mid faults_now) text (text_of status) → (text ≡ text_of status → faults_now ≡ faults_mid) →
     Answered words limit before after faults faults_now answer
-answered quiet words limit before mid after reads reads_mid faults faults_mid faults_now status answer text number r fault
+answered-stream quiet words limit before mid after reads reads_mid faults faults_mid faults_now status answer text number r
+    fault
     wrote says told =
     subst (λ (c : Contents). Answered words limit before c faults faults_now answer) (sym all)
     (record {
       moved = moved r.input r.output (r.tally ++ text) before r.start same front;
       given = elim r.opened [
         | inl e ↦ inl (ap (λ (c : Contents). c.given) e)
-        | inr o ↦ inr (o.0, o.1, o.2, opened-given o.0 before r.start o.3)
+        | inr o ↦ inr (inl (o.0, o.1, o.2, opened-given o.0 before r.start o.3))
       ];
       status = status;
       number = number;
@@ -423,13 +499,13 @@ answered quiet words limit before mid after reads reads_mid faults faults_mid fa
               holds = did_all (with_rules b.rules c)
                   (λ none. r.unread c m (sym (reads-task b.rules c 0) ∙ none)) b.holds;
             })
-            | inr n ↦ inr (
+            | inr n ↦ inr (inl (
               did_nothing n.0,
               none-after c status r.input r.output (r.tally ++ text) before r.start n.1,
-            )
+            ))
           ];
       on_error = added-seen r.input r.output (r.tally ++ text) before r.start 2 same (omega arith);
-      text = says-earlier faults faults_mid faults_now status text reads reads_mid fault says;
+      text = says-earlier quiet faults faults_mid faults_now status text reads reads_mid fault says;
       untold = λ other all_said. told all_said ∙ fault.unwritten other;
     })
   where
@@ -485,40 +561,9 @@ answered quiet words limit before mid after reads reads_mid faults faults_mid fa
               (subst (λ (xs : List ℕ). EndsAs t limit (before.left 0) r.input xs r.tally status) (sym output) ends);
         }
 
-    -- how many faults a status tells: one where writing was refused
-    by_told : (s : Status) → (s ≡ Stopped Refused) ⊎ (faults_told s ≡ 0)
-    by_told Done = inr refl
-    by_told Noted = inr refl
-    by_told Usage = inr refl
-    by_told Cut = inr refl
-    by_told (Stopped ReadFault) = inr refl
-    by_told (Stopped Refused) = inl refl
-    by_told (Stopped TooLong) = inr refl
-    by_told (Stopped (Faulty f)) = inr refl
-
-    rose-more : (before mid now : ℕ) (s : Status) (reads reads_mid : ℕ) → Faulted quiet reads reads_mid before mid s →
-        Rose mid now → Rose (before + faults_told s) now
-    rose-more before mid now s reads reads_mid f r = elim (by_told s) [
-      | inl e ↦ (let one : faults_told s ≡ 1 = ap faults_told e in omega (arith, r, f.write e, one))
-      | inr none ↦ omega (arith, r, f.writes_later, none)
-    ]
-
-    says-earlier : (before mid now : ℕ) (s : Status) (text : List ℕ) (reads reads_mid : ℕ) →
-        Faulted quiet reads reads_mid before mid s → Says (Rose mid now) text (text_of s) →
-        Says (Rose (before + faults_told s) now) text (text_of s)
-    says-earlier before mid now s text reads reads_mid f says =
-        record {
-          front = says.front;
-          all = elim says.all [
-            | inl e ↦ inl e
-            | inr r ↦ inr
-                (rose-more before mid now s reads reads_mid f r)
-          ];
-        }
-
 -- a command that was carried out is what its words mean
 
-pub ran-words : (c : Command) (words : List (List ℕ)) (limit : ℕ) (before after : Contents) (status : Status) →
+ran-words : (c : Command) (words : List (List ℕ)) (limit : ℕ) (before after : Contents) (status : Status) →
     Means words c → CommandMay c status → CommandRan c limit before after status →
     RanWords words limit before after status
 ran-words c words limit before after status m may r =
@@ -539,6 +584,27 @@ ran-words c words limit before after status m may r =
       ends = λ d n. subst (λ (x : Command). EndsCommand x limit before r.start r.input r.output r.tally status)
           (one_command words c d m n) r.ends;
     }
+
+pub did-words : (c : Command) (words : List (List ℕ)) (limit : ℕ) (before after : Contents) (status : Status) →
+    Means words c → CommandMay c status → CommandDid c limit before after status →
+    DidWords words limit before after status
+did-words (RunningRig file) words limit before after status m may r = inr (file, m, r)
+did-words (Converting tally first between last) words limit before after status m may r =
+    inl (ran-words (Converting tally first between last) words limit before after status m may r)
+did-words (Listing traced s) words limit before after status m may r =
+    inl (ran-words (Listing traced s) words limit before after status m may r)
+did-words Migrating words limit before after status m may r =
+    inl (ran-words Migrating words limit before after status m may r)
+did-words (RecordingTape s) words limit before after status m may r =
+    inl (ran-words (RecordingTape s) words limit before after status m may r)
+did-words PlayingFile words limit before after status m may r =
+    inl (ran-words PlayingFile words limit before after status m may r)
+did-words (GuardingTape s) words limit before after status m may r =
+    inl (ran-words (GuardingTape s) words limit before after status m may r)
+did-words (FilteringTape file s) words limit before after status m may r =
+    inl (ran-words (FilteringTape file s) words limit before after status m may r)
+did-words (Selftesting start count) words limit before after status m may r =
+    inl (ran-words (Selftesting start count) words limit before after status m may r)
 
 pub ran-usage : (words : List (List ℕ)) (limit : ℕ) (before : Contents) → ((c : Command) → Means words c → ⊥) →
     RanWords words limit before before Usage
@@ -579,10 +645,31 @@ quiet-words c words reads reads_now writes writes_now status m f =
       unwritten = f.unwritten;
     }
 
+-- a command that runs no rig
+
+pub streamed : (words : List (List ℕ)) (limit : ℕ) (before after : Contents) (status : Status) (c : Command) →
+    runs_rig c ≡ false → Means words c → DidWords words limit before after status →
+    RanWords words limit before after status
+streamed words limit before after status c plain m d = elim d [
+  | inl r ↦ r
+  | inr r ↦ absurd (wrong (ap runs_rig (one_command words (RunningRig r.0) c r.1 m) ∙ plain))
+]
+
+pub reader-streams : (c : Command) (s : Spec) → ReadsOne c s → runs_rig c ≡ false
+reader-streams (Converting tally first between last) s e = refl
+reader-streams (Listing traced t) s e = refl
+reader-streams Migrating s e = absurd e
+reader-streams (RecordingTape t) s e = absurd e
+reader-streams PlayingFile s e = absurd e
+reader-streams (GuardingTape t) s e = absurd e
+reader-streams (FilteringTape rules t) s e = absurd e
+reader-streams (RunningRig file) s e = absurd e
+reader-streams (Selftesting start count) s e = absurd e
+
 -- what the answer says of a command
 
 pub ends-at_status : (words : List (List ℕ)) (limit : ℕ) (before after : Contents) (faults faults_now answer : ℕ)
-    (c : Command) (status : Status) → takes_rules c ≡ false → tells_fault (code_of status) ≡ false →
+    (c : Command) (status : Status) → takes_file c ≡ false → tells_fault (code_of status) ≡ false →
     answer ≡ code_of status → Means words c → (a : Answered words limit before after faults faults_now answer) →
     EndsAs (with_rules [] c) limit (before.left 0) (taken_off 0 before after) (added_to 1 before after) a.tally status
 ends-at_status words limit before after faults faults_now answer c status plain other e m a =
@@ -602,7 +689,7 @@ went_through-task words limit before after faults faults_now answer t all a did 
     (λ ends. ends.0) (λ ends. ends.0) (λ ends. ends.0) a.status (sym (ap read_all a.number) ∙ all) did.ends
 
 pub went_through : (words : List (List ℕ)) (limit : ℕ) (before after : Contents) (faults faults_now answer : ℕ)
-    (c : Command) → takes_rules c ≡ false →
+    (c : Command) → takes_file c ≡ false →
     read_all answer ≡ true → Means words c → (a : Answered words limit before after faults faults_now answer) →
     DidAll (with_rules [] c) limit (before.left 0) (taken_off 0 before after) (added_to 1 before after) a.tally
 went_through words limit before after faults faults_now answer c plain all m a =
@@ -641,6 +728,8 @@ tallied words limit before after faults faults_now answer PlayingFile all m a =
 tallied words limit before after faults faults_now answer (GuardingTape s) all m a =
     tally-first words limit before after faults faults_now answer _ a
     (went_through words limit before after faults faults_now answer (GuardingTape s) refl all m a).tally_is
+tallied words limit before after faults faults_now answer (RunningRig file) all m a =
+    (added_to 2 before after, refl)
 tallied words limit before after faults faults_now answer (Selftesting start count) all m a =
     tally-first words limit before after faults faults_now answer _ a
     (went_through words limit before after faults faults_now answer (Selftesting start count) refl all m a).tally_is
@@ -653,6 +742,7 @@ is_whole-of (RecordingTape t) s input e = absurd e
 is_whole-of PlayingFile s input e = absurd e
 is_whole-of (GuardingTape t) s input e = absurd e
 is_whole-of (FilteringTape rules t) s input e = absurd e
+is_whole-of (RunningRig file) s input e = absurd e
 is_whole-of (Selftesting start count) s input e = absurd e
 
 -- a recording that is no tape has no fault
@@ -664,6 +754,7 @@ no_fault-of (RecordingTape t) s input f reads e = reads
 no_fault-of PlayingFile s input f reads e = reads
 no_fault-of (GuardingTape t) s input f reads e = reads
 no_fault-of (FilteringTape rules t) s input f reads e = reads
+no_fault-of (RunningRig file) s input f reads e = reads
 no_fault-of (Selftesting start count) s input f reads e = reads
 
 leaves_none : {R : Type 0} (c : CommandOf R) (s : Spec) (input : List ℕ) (why : SmfFull) → ReadsOne c s → LeavesOut c input why → ⊥
@@ -674,6 +765,7 @@ leaves_none (RecordingTape t) s input why reads e = reads
 leaves_none PlayingFile s input why reads e = e
 leaves_none (GuardingTape t) s input why reads e = e
 leaves_none (FilteringTape rules t) s input why reads e = e
+leaves_none (RunningRig file) s input why reads e = e
 leaves_none (Selftesting start count) s input why reads e = e
 
 wants_none : {R : Type 0} (c : CommandOf R) (s : Spec) (input : List ℕ) → ReadsOne c s → may_want_memory c ≡ false →
@@ -685,6 +777,7 @@ wants_none (RecordingTape t) s input reads w e = reads
 wants_none PlayingFile s input reads w e = reads
 wants_none (GuardingTape t) s input reads w e = reads
 wants_none (FilteringTape rules t) s input reads w e = reads
+wants_none (RunningRig file) s input reads w e = reads
 wants_none (Selftesting start count) s input reads w e = reads
 
 pub no_fault : {R : Type 0} (c : CommandOf R) (s : Spec) (input : List ℕ) (f : Fault) → ReadsOne c s → may_want_memory c ≡ false →
@@ -694,6 +787,7 @@ no_fault c s input (fault.File f) reads w e = no_fault-of c s input (fault.File 
 no_fault c s input fault.LongTrack reads w e = leaves_none c s input full.Track reads e
 no_fault c s input (fault.LongGap was now) reads w e = leaves_none c s input (full.Gap was now) reads e
 no_fault c s input fault.Memory reads w e = wants_none c s input reads w e
+no_fault c s input (fault.Rig line cause) reads w e = e
 no_fault c s input (fault.Rules f) reads w e = e
 
 pub one-reads : {R : Type 0} (c : CommandOf R) (s : Spec) → ReadsOne c s → reads_from c 0 ≡ true
@@ -704,6 +798,7 @@ one-reads (RecordingTape t) s e = absurd e
 one-reads PlayingFile s e = absurd e
 one-reads (GuardingTape t) s e = absurd e
 one-reads (FilteringTape rules t) s e = absurd e
+one-reads (RunningRig file) s e = absurd e
 one-reads (Selftesting start count) s e = absurd e
 
 -- at the end, it is 5 exactly where the input stops inside a packet
@@ -759,6 +854,7 @@ reads_all words limit before after reads writes (Stopped TooLong) c t m may r f 
     absurd (omega (arith, short, ends.0, ap length (ran.front).1, length-append ran.input (ran.front).0))
 reads_all words limit before after reads writes (Stopped (Faulty g)) c t m may r f nr nw short sound ran ends =
     absurd (sound ran.input g ran.front ends.2)
+reads_all words limit before after reads writes (BadTape name bad) c t m may r f nr nw short sound ran ends = absurd ends
 
 -- of a conversion of a whole input, that is 0
 pub completes : (words : List (List ℕ)) (limit : ℕ) (before after : Contents) (faults faults_now answer : ℕ)
@@ -788,6 +884,7 @@ means-noted words rules (RecordingTape s) m e = absurd (wrong (sym e))
 means-noted words rules PlayingFile m e = absurd (wrong (sym e))
 means-noted words rules (GuardingTape s) m e = absurd (wrong (sym e))
 means-noted words rules (FilteringTape file s) m e = absurd (wrong (sym e))
+means-noted words rules (RunningRig file) m e = absurd (wrong (sym e))
 means-noted words rules (Selftesting start count) m e = absurd (wrong (sym e))
 
 means-file : (words : List (List ℕ)) (rules : List Rule) (c : Command) → Means words c →
@@ -800,6 +897,7 @@ means-file words rules (RecordingTape s) m e = absurd (wrong (sym e))
 means-file words rules PlayingFile m e = m
 means-file words rules (GuardingTape s) m e = absurd (wrong (sym e))
 means-file words rules (FilteringTape file s) m e = absurd (wrong (sym e))
+means-file words rules (RunningRig file) m e = absurd (wrong (sym e))
 means-file words rules (Selftesting start count) m e = absurd (wrong (sym e))
 
 means-filter : (words : List (List ℕ)) (rules : List Rule) (c : Command) → Means words c →
@@ -812,7 +910,20 @@ means-filter words rules (RecordingTape s) m e = absurd (wrong (sym e))
 means-filter words rules PlayingFile m e = absurd (wrong (sym e))
 means-filter words rules (GuardingTape s) m e = absurd (wrong (sym e))
 means-filter words rules (FilteringTape file s) m e = (file, s, m)
+means-filter words rules (RunningRig file) m e = absurd (wrong (sym e))
 means-filter words rules (Selftesting start count) m e = absurd (wrong (sym e))
+
+means-rig : (words : List (List ℕ)) (rules : List Rule) (c : Command) → Means words c →
+    runs_rig (with_rules rules c) ≡ true → (file : List ℕ) × Means words (RunningRig file)
+means-rig words rules (Converting tally first between last) m e = absurd (wrong (sym e))
+means-rig words rules (Listing traced s) m e = absurd (wrong (sym e))
+means-rig words rules Migrating m e = absurd (wrong (sym e))
+means-rig words rules (RecordingTape s) m e = absurd (wrong (sym e))
+means-rig words rules PlayingFile m e = absurd (wrong (sym e))
+means-rig words rules (GuardingTape s) m e = absurd (wrong (sym e))
+means-rig words rules (FilteringTape file s) m e = absurd (wrong (sym e))
+means-rig words rules (RunningRig file) m e = (file, m)
+means-rig words rules (Selftesting start count) m e = absurd (wrong (sym e))
 
 pub is_canonical : (first : Spec) (between : List Spec) (last : Spec) (read written : List ℕ) → last ≡ Din →
     written ≡ through first between last read → through Din [] Din written ≡ written
@@ -840,6 +951,8 @@ usage_only words status answer number may = (
     by_status Noted may none = absurd (meant Noted may none (other_status Noted Usage (λ e. omega (arith, e))))
     by_status Cut may none = absurd (meant Cut may none (other_status Cut Usage (λ e. omega (arith, e))))
     by_status (Stopped stop) may none = absurd (meant (Stopped stop) may none (λ e. not_stopped stop e))
+    by_status (BadTape name bad) may none =
+        absurd (meant (BadTape name bad) may none (other_status (BadTape name bad) Usage (λ e. omega (arith, e))))
 
 pub is_meant : (words : List (List ℕ)) (status : Status) (answer : ℕ) → answer ≡ code_of status →
     MayAnswerWords words status → (answer ≡ 2 → ⊥) → (c : Command) × Means words c
@@ -899,12 +1012,25 @@ noted_alone words status answer number may one =
 
 pub tape_alone : (words : List (List ℕ)) (status : Status) (answer : ℕ) → answer ≡ code_of status →
     MayAnswerWords words status → answer ≡ 7 → (c : Command) × Means words c × (reads_tape c ≡ true)
-tape_alone words status answer number may seven =
-    let bad = bad_tape status (sym number ∙ seven) in
-    let m = means-other words status (Stopped (Faulty (fault.Tape bad.0))) may (λ e. omega (arith, number, seven, e))
-    bad.1 in
+tape_alone words status answer number may seven = elim (bad_tape status (sym number ∙ seven)) [
+  | inl bad ↦ (let m = means-other words status (Stopped (Faulty (fault.Tape bad.0))) may
+      (λ e. omega (arith, number, seven, e)) bad.1 in
+      let may_it = m.2 in
+      (m.0, m.1, sym (tape-task may_it.rules m.0) ∙ may_it.may))
+  | inr bad ↦ (let m = means-other words status (BadTape bad.0 bad.1) may (λ e. omega (arith, number, seven, e)) bad.2 in
+      let may_it = m.2 in
+      let r = means-rig words may_it.rules m.0 m.1 may_it.may in
+      (RunningRig r.0, r.1, refl))
+]
+
+pub rig_alone : (words : List (List ℕ)) (status : Status) (answer : ℕ) → answer ≡ code_of status →
+    MayAnswerWords words status → answer ≡ 6 → (file : List ℕ) × Means words (RunningRig file)
+rig_alone words status answer number may six =
+    let bad = bad_rig status (sym number ∙ six) in
+    let m = means-other words status (Stopped (Faulty (fault.Rig bad.0 bad.1))) may
+    (λ e. omega (arith, number, six, e)) bad.2 in
     let may_it = m.2 in
-    (m.0, m.1, sym (tape-task may_it.rules m.0) ∙ may_it.may)
+    means-rig words may_it.rules m.0 m.1 may_it.may
 
 pub file_alone : (words : List (List ℕ)) (status : Status) (answer : ℕ) → answer ≡ code_of status →
     MayAnswerWords words status → answer ≡ 13 → Means words PlayingFile
@@ -954,6 +1080,12 @@ selftest-ends words start count status answer number may means = by_status statu
     by_status (Stopped (Faulty fault.Memory)) e may =
         absurd (wrong (sym (its (Stopped (Faulty fault.Memory)) may
         (other_status (Stopped (Faulty fault.Memory)) Usage (λ e. omega (arith, e))))))
+    by_status (Stopped (Faulty (fault.Rig line cause))) e may =
+        absurd (wrong (sym (its (Stopped (Faulty (fault.Rig line cause))) may
+        (other_status (Stopped (Faulty (fault.Rig line cause))) Usage (λ e. omega (arith, e))))))
+    by_status (BadTape name bad) e may =
+        absurd (wrong (sym (its (BadTape name bad) may
+        (other_status (BadTape name bad) Usage (λ e. omega (arith, e))))))
     by_status (Stopped (Faulty (fault.Rules f))) e may =
         absurd (wrong (sym (its (Stopped (Faulty (fault.Rules f))) may
         (other_status (Stopped (Faulty (fault.Rules f))) Usage (λ e. omega (arith, e))))))

@@ -17,19 +17,19 @@ use Rattle.mb_carrier.specs.declared.spec.Spec.{Spec}
 use Rattle.mb_frames.specs.declared.tape.TapeFault.{TapeFault}
 use Rattle.mb_smf.specs.declared.fault.SmfFault.{SmfFault}
 use Rattle.mb_words.specs.Command.{Command, Converting, Listing, Migrating, RecordingTape, PlayingFile, GuardingTape}
-use Rattle.mb_words.specs.Command.{FilteringTape, Selftesting, Means}
+use Rattle.mb_words.specs.Command.{FilteringTape, RunningRig, Selftesting, Means}
 use Rattle.mb_top.specs.Output.{fault_of, in_file, in_tape, is_whole, output_of, stopped_output_of, LeavesOut, Shows}
 use Rattle.mb_top.specs.Output.{WantsMemory}
 use Rattle.mb_smf.specs.declared.writer.SmfFull.{SmfFull}
 use Rattle.mb_smf.specs.declared.writer.SmfFull.TheVariants as full
-use Rattle.mb_top.specs.Output.{reads_from, reads_tape, rewrites, takes_rules}
+use Rattle.mb_top.specs.Output.{reads_from, reads_tape, rewrites, takes_file}
 use Rattle.mb_filter.specs.declared.rule.Rule.{Rule}
 use Rattle.mb_top.specs.Task.{Task, with_rules}
 use Rattle.mb_top.specs.Answer.{Answered, Did, EndsAs, taken_off, added_to, code_of, read_all}
 use Rattle.mb_top.specs.declared.fault.Fault.{Fault}
 use Rattle.mb_top.specs.declared.fault.Fault.TheVariants as fault
 use Rattle.mb_top.specs.declared.status.Status.{Status}
-use Rattle.mb_top.specs.declared.status.Status.TheVariants.{Done, Noted, Usage, Cut, Stopped}
+use Rattle.mb_top.specs.declared.status.Status.TheVariants.{Done, Noted, Usage, Cut, Stopped, BadTape}
 use Rattle.mb_top.specs.declared.status.Stop.TheVariants.{ReadFault, Refused, TooLong, Faulty}
 use Rattle.mb_top.proofs.AnswerLemmas.{same_status}
 use Rattle.mb_top.proofs.TaskLemmas.{did-plain, plain-rewrites, rewrites-task, whole-task}
@@ -71,6 +71,7 @@ writes-all (GuardingTape s) e = record {
   reads = refl;
 }
 writes-all (FilteringTape rules s) e = absurd (wrong (sym e))
+writes-all (RunningRig file) e = absurd (wrong (sym e))
 writes-all (Selftesting start count) e = absurd (wrong (sym e))
 
 -- a filter is one by its rules
@@ -92,6 +93,7 @@ Tells (Some (fault.File f)) n = n ≡ 13
 Tells (Some fault.LongTrack) n = n ≡ 11
 Tells (Some (fault.LongGap was now)) n = n ≡ 12
 Tells (Some fault.Memory) n = n ≡ 9
+Tells (Some (fault.Rig line cause)) n = n ≡ 6
 Tells (Some (fault.Rules f)) n = n ≡ 14
 
 -- no write failed
@@ -154,6 +156,9 @@ by_status c limit left read written tally (Stopped (Faulty (fault.LongGap was no
     absurd (w.no_left_out read (full.Gap was now) (ends.2))
 by_status c limit left read written tally (Stopped (Faulty fault.Memory)) w other ends =
     absurd (w.no_want read (ends.2))
+by_status c limit left read written tally (Stopped (Faulty (fault.Rig line cause))) w other ends =
+    absurd (ends.2)
+by_status c limit left read written tally (BadTape name bad) w other ends = absurd ends
 by_status c limit left read written tally (Stopped (Faulty (fault.Rules f))) w other ends = absurd (ends.2)
 
 pub carried-task : (words : List (List ℕ)) (limit : ℕ) (before after : Contents) (faults faults_now answer : ℕ)
@@ -198,7 +203,7 @@ part-task words limit before after faults faults_now answer t four a did =
     ends.front
 
 pub carried-part : (words : List (List ℕ)) (limit : ℕ) (before after : Contents) (faults faults_now answer : ℕ)
-    (c : Command) → takes_rules c ≡ false → Means words c → answer ≡ 4 →
+    (c : Command) → takes_file c ≡ false → Means words c → answer ≡ 4 →
     Answered words limit before after faults faults_now answer →
     IsFront (added_to 1 before after) (output_of (with_rules [] c) (taken_off 0 before after))
 carried-part words limit before after faults faults_now answer c plain m four a =
@@ -229,6 +234,8 @@ completes-task words limit before after faults faults_now answer t w all is a di
     by_end (Stopped (Faulty fault.LongTrack)) e ends = absurd (wrong (sym e))
     by_end (Stopped (Faulty (fault.LongGap was now))) e ends = absurd (wrong (sym e))
     by_end (Stopped (Faulty fault.Memory)) e ends = absurd (wrong (sym e))
+    by_end (Stopped (Faulty (fault.Rig line cause))) e ends = absurd (wrong (sym e))
+    by_end (BadTape name bad) e ends = absurd (wrong (sym e))
     by_end (Stopped (Faulty (fault.Rules f))) e ends = absurd (wrong (sym e))
 
 pub carried-completes : (words : List (List ℕ)) (limit : ℕ) (before after : Contents) (faults faults_now answer : ℕ)
@@ -255,6 +262,7 @@ tape_fault-told Migrating read answer r e t = tape-told (tape_fault read) answer
 tape_fault-told PlayingFile read answer r e t = absurd (wrong (sym e))
 tape_fault-told (GuardingTape s) read answer r e t = tape-told (tape_fault read) answer t
 tape_fault-told (FilteringTape rules s) read answer r e t = tape-told (tape_fault read) answer t
+tape_fault-told (RunningRig file) read answer r e t = absurd (wrong (sym r))
 tape_fault-told (Selftesting start count) read answer r e t = absurd (wrong (sym r))
 
 pub file-told : (told : Option SmfFault) (answer : ℕ) → Tells (in_file told) answer → (answer ≡ 13) ↔ IsSome told
@@ -276,6 +284,7 @@ shows-none c input w sound (fault.File f) e = sound (fault.File f) e
 shows-none c input w sound fault.LongTrack e = w.no_left_out input full.Track e
 shows-none c input w sound (fault.LongGap was now) e = w.no_left_out input (full.Gap was now) e
 shows-none c input w sound fault.Memory e = w.no_want input e
+shows-none c input w sound (fault.Rig line cause) e = e
 shows-none c input w sound (fault.Rules f) e = e
 
 -- of a tape whose notes are ended

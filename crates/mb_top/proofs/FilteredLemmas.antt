@@ -1,11 +1,9 @@
 -- What each answer says of a tape that is filtered.
-use Rattle.std.proofs.Common.{◌≡◌, ◌⊎◌, ◌↔◌, ℕ, ◌<◌, true, false, List, [], ◌++◌, length, refl, sym, ◌∙◌, ap, subst}
+use Rattle.std.proofs.Common.{◌≡◌, ◌⊎◌, ◌↔◌, ℕ, ◌<◌, true, List, [], length, refl, sym, ◌∙◌, ap, subst}
 use Rattle.std.proofs.Common.{inl, inr, arith}
-use Rattle.std.specs.Prelude.{Ok, Err, IsSome}
-use Rattle.mb_message.specs.Front.{IsFront}
+use Rattle.std.specs.Prelude.{Ok, Err}
 use Rattle.mb_outside.specs.Contents.{Contents}
 use Rattle.mb_frames.specs.Frames.{AreBytes}
-use Rattle.mb_frames.specs.Gathering.{after_magic}
 use Rattle.mb_filter.specs.Mapped.{mapped}
 use Rattle.mb_filter.specs.Read.{rules_of}
 use Rattle.mb_filter.specs.declared.rule.Rule.{Rule}
@@ -14,19 +12,21 @@ use Rattle.mb_stream.specs.Puts.{Put}
 use Rattle.mb_track.specs.Track.{track_whole}
 use Rattle.mb_track.proofs.MomentLemmas.{moments-fit}
 use Rattle.mb_rewrite.specs.Filtered.{filtered_marks}
-use Rattle.mb_rewrite.specs.LineTape.{line_ended, line_tape}
+use Rattle.mb_rewrite.specs.LineTape.{line_tape}
 use Rattle.mb_rewrite.specs.Recorded.{track_den}
 use Rattle.mb_rewrite.proofs.EndLemmas.{tape-is}
 use Rattle.mb_rewrite.proofs.FilteredLemmas.{filtered-read}
 use Rattle.mb_carrier.specs.declared.spec.Spec.{Spec}
 use Rattle.mb_carrier.specs.declared.spec.Spec.TheVariants.{Din}
 use Rattle.mb_words.specs.Command.{FilteringTape, Means}
-use Rattle.mb_top.specs.RulesFile.{HasBadRules, HasRules, NoRules, text_taken}
-use Rattle.mb_top.specs.Answer.{Answered, ByRules, Did, DidNothing, EndsAs, added_to, code_of, read_all, taken_off}
+use Rattle.mb_top.specs.RulesFile.{HasBadRules, HasRules, NoRules}
+use Rattle.mb_top.specs.TextFile.{text_taken}
+use Rattle.mb_top.specs.Answer.{Answered, ByRules, Did, DidCommand, DidNothing, EndsAs, added_to, code_of, read_all}
+use Rattle.mb_top.specs.Answer.{taken_off}
 use Rattle.mb_top.specs.Ran.{MayAnswerWords, RanWords}
 use Rattle.mb_top.specs.declared.fault.Fault.TheVariants as fault
 use Rattle.mb_top.specs.declared.status.Status.{Status}
-use Rattle.mb_top.specs.declared.status.Status.TheVariants.{Done, Noted, Usage, Cut, Stopped}
+use Rattle.mb_top.specs.declared.status.Status.TheVariants.{Done, Noted, Usage, Cut, Stopped, BadTape}
 use Rattle.mb_top.specs.declared.status.Stop.TheVariants.{ReadFault, Refused, TooLong, Faulty}
 use Rattle.mb_top.proofs.AnswerLemmas.{bad_rules, reads_all, same_status}
 use Rattle.mb_top.proofs.CarriedLemmas.{Carried, completes-task, filter-writes-all, shows-none, whole-tape}
@@ -47,6 +47,8 @@ without-rules file before after (Stopped (Faulty (fault.File f))) n = absurd n
 without-rules file before after (Stopped (Faulty fault.LongTrack)) n = absurd n
 without-rules file before after (Stopped (Faulty (fault.LongGap was now))) n = absurd n
 without-rules file before after (Stopped (Faulty fault.Memory)) n = absurd n
+without-rules file before after (Stopped (Faulty (fault.Rig line cause))) n = absurd n
+without-rules file before after (BadTape name bad) n = absurd n
 without-rules file before after (Stopped Refused) n = absurd n
 without-rules file before after (Stopped TooLong) n = absurd n
 without-rules file before after Done n = absurd n
@@ -62,6 +64,16 @@ nothing-written : (before after : Contents) (tally : List ℕ) → DidNothing be
     added_to 1 before after ≡ []
 nothing-written before after tally d = d.keeps.unwritten 1 (omega arith) refl
 
+-- a filter had its rules, or did nothing
+by_filter : (file : List ℕ) (s : Spec) (limit : ℕ) (before after : Contents) (tally : List ℕ) (status : Status) →
+    DidCommand (FilteringTape file s) limit before after tally status →
+    ByRules (FilteringTape file s) (HasRules file before after) (λ t. Did t limit before after tally status)
+    ⊎ (DidNothing before after tally × NoRules file before after status)
+by_filter file s limit before after tally status d = elim d [
+  | inl b ↦ inl b
+  | inr other ↦ elim other [ inl n ↦ inr n | inr run ↦ absurd run ]
+]
+
 -- a filter that the answer tells of had its rules
 pub filter-did : (words : List (List ℕ)) (limit : ℕ) (before after : Contents) (faults faults_now answer : ℕ)
     (file : List ℕ) (s : Spec) → Means words (FilteringTape file s) → (answer ≡ 14 → ⊥) →
@@ -69,7 +81,7 @@ pub filter-did : (words : List (List ℕ)) (limit : ℕ) (before after : Content
     (a : Answered words limit before after faults faults_now answer) →
     ByRules (FilteringTape file s) (HasRules file before after) (λ t. Did t limit before after a.tally a.status)
 filter-did words limit before after faults faults_now answer file s m judged silent a =
-    elim (a.did (FilteringTape file s) m) [
+    elim (by_filter file s limit before after a.tally a.status (a.did (FilteringTape file s) m)) [
       | inl b ↦ b
       | inr n ↦ elim (without-rules file before after a.status n.1) [
         | inl e ↦ absurd (silent (a.number ∙ ap code_of e) (nothing-written before after a.tally n.0))
@@ -91,7 +103,7 @@ pub rules-judged : (words : List (List ℕ)) (limit : ℕ) (before after : Conte
     Answered words limit before after faults faults_now answer →
     (answer ≡ 14) ↔ ((answer ≡ 3 → ⊥) × ((f : RulesFault) × HasBadRules file before after f))
 rules-judged words limit before after faults faults_now answer file s m a = (
-  λ fourteen. elim (a.did (FilteringTape file s) m) [
+  λ fourteen. elim (by_filter file s limit before after a.tally a.status (a.did (FilteringTape file s) m)) [
     | inl b ↦ (let bad = bad_rules a.status (sym a.number ∙ fourteen) in
         absurd (no-rules_fault b.rules s limit _ _ _ _ a.status bad.0 bad.1 b.holds.ends))
     | inr n ↦ elim (without-rules file before after a.status n.1) [
@@ -99,7 +111,7 @@ rules-judged words limit before after faults faults_now answer file s m a = (
       | inr e ↦ (λ three. omega (arith, fourteen, three), (e.0, e.2))
     ]
   ],
-  λ found. elim (a.did (FilteringTape file s) m) [
+  λ found. elim (by_filter file s limit before after a.tally a.status (a.did (FilteringTape file s) m)) [
     | inl b ↦ absurd (both-found (text_taken before after) b.rules (found.1).0 b.got_them.are ((found.1).1).are)
     | inr n ↦ elim (without-rules file before after a.status n.1) [
       | inl e ↦ absurd (found.0 (a.number ∙ ap code_of e))
@@ -117,7 +129,7 @@ pub none-filtered : (words : List (List ℕ)) (limit : ℕ) (before after : Cont
     Answered words limit before after faults faults_now answer →
     (answer ≡ 14) ⊎ ((answer ≡ 3) × (added_to 1 before after ≡ [])) →
     (taken_off 0 before after ≡ []) × (added_to 1 before after ≡ [])
-none-filtered words limit before after faults faults_now answer file s m a why = elim (a.did (FilteringTape file s) m) [
+none-filtered words limit before after faults faults_now answer file s m a why = elim (by_filter file s limit before after a.tally a.status (a.did (FilteringTape file s) m)) [
   | inr n ↦ (nothing-read before after a.tally n.0, nothing-written before after a.tally n.0)
   | inl b ↦ elim why [
     | inl fourteen ↦ (let bad = bad_rules a.status (sym a.number ∙ fourteen) in
@@ -157,7 +169,7 @@ filters-completes words limit before mid after faults faults_now answer reads wr
         | inl e ↦ absurd (nr (r e))
         | inr e ↦ inr (number ∙ ap code_of e.1)
       ]
-      | inl b ↦ elim (a.did (FilteringTape file s) m) [
+      | inl b ↦ elim (by_filter file s limit before after a.tally a.status (a.did (FilteringTape file s) m)) [
         | inr n ↦ elim (without-rules file before after a.status n.1) [
           | inl e ↦ absurd (nr (r (same_status status (Stopped ReadFault) refl
               (sym number ∙ (a.number ∙ ap code_of e)))))

@@ -1,5 +1,5 @@
 -- What keeps a command from going on, as its reader tells it; and how an input ended.
-use Rattle.std.proofs.Common.{◌≡◌, ℕ, Bool, true, false, if◌then◌else◌, List, [], refl, sym, ◌∙◌, ap, subst}
+use Rattle.std.proofs.Common.{◌≡◌, ℕ, Bool, true, false, if◌then◌else◌, List, sym, subst}
 use Rattle.std.specs.Prelude.{Option, None, Some}
 use Rattle.mb_frames.specs.declared.tape.TapeFault.{TapeFault}
 use Rattle.mb_smf.specs.declared.fault.SmfFault.{SmfFault}

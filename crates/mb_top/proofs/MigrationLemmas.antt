@@ -1,7 +1,7 @@
 -- A tape in the second form has the same records; and a fault of a tape stays.
-use Rattle.std.proofs.Common.{◌≡◌, ℕ, ◌↔◌, ◌==◌, Bool, if◌then◌else◌, true, false, List, [], ◌∷◌, ◌++◌, length, refl}
-use Rattle.std.proofs.Common.{sym, ◌∙◌, ap, subst, arith}
-use Rattle.std.specs.Prelude.{Option, Some, None, IsSome}
+use Rattle.std.proofs.Common.{◌≡◌, ℕ, ◌==◌, Bool, if◌then◌else◌, true, false, List, [], ◌∷◌, ◌++◌, length, refl}
+use Rattle.std.proofs.Common.{sym, ◌∙◌, ap, subst}
+use Rattle.std.specs.Prelude.{Option, Some, None}
 use Rattle.mb_message.specs.Front.{IsFront}
 use Rattle.mb_frames.specs.Frames.{AreBytes}
 use Rattle.mb_frames.specs.Migrated.{tape2}

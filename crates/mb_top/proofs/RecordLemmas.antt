@@ -1,8 +1,8 @@
 -- A tape that is recorded, as a job says it.
-use Rattle.std.proofs.Common.{◌≡◌, ℕ, ◌≤◌, ◌^◌, Bool, not, false, List, [], ◌∷◌, ◌++◌, length, refl, sym, ◌∙◌}
+use Rattle.std.proofs.Common.{◌≡◌, ℕ, ◌≤◌, ◌^◌, Bool, not, List, [], ◌++◌, length, refl, sym, ◌∙◌}
 use Rattle.std.proofs.Common.{ap, subst}
 use Rattle.std.specs.Prelude.{Option, None, Some, Result, Ok, Err, IfOk, OnErr}
-use Rattle.mb_message.specs.Front.{IsFront, IsPart}
+use Rattle.mb_message.specs.Front.{IsPart}
 use Rattle.mb_stream.specs.Puts.{Put}
 use Rattle.mb_smf.specs.declared.writer.SmfFull.{SmfFull}
 use Rattle.mb_smf.specs.declared.writer.SmfFull.TheVariants as full
@@ -18,14 +18,13 @@ use Rattle.mb_outside.specs.declared.out.Refused.{Refused}
 use Rattle.mb_tapes.specs.declared.recording.Recording.{Recording}
 use Rattle.mb_filter.specs.declared.rule.Rule.{Rule}
 use Rattle.mb_words.specs.Command.{RecordingTape}
-use Rattle.mb_top.specs.Output.{Shows, in_tape, is_whole, output_of}
-use Rattle.mb_top.specs.Job.{job_task, JobStands, JobStops, JobDone, JobFed, JobHalted, JobEnded, JobEndedAs}
+use Rattle.mb_top.specs.Output.{Shows, in_tape, is_whole}
+use Rattle.mb_top.specs.Job.{job_task, JobStands, JobStops, JobDone, JobFed, JobEndedAs}
 use Rattle.mb_top.specs.Job.{JobEndHalted, JobStopped, JobTold, KeptBy, PieceRecorded, RecordEnded, RecordStands}
 use Rattle.mb_top.specs.Job.{full_fault}
 use Rattle.mb_top.specs.declared.ending.Ending.{Ending}
 use Rattle.mb_top.specs.declared.ending.Ending.TheVariants as ending
 use Rattle.mb_top.specs.declared.fault.Fault.{Fault}
-use Rattle.mb_top.proofs.KeptLemmas.{kept-tape}
 use Rattle.mb_top.specs.declared.job.Job.{Job}
 use Rattle.mb_top.specs.declared.job.Job.TheVariants as job
 

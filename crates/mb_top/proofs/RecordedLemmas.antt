@@ -1,13 +1,13 @@
 -- What each answer says of a tape that is recorded.
-use Rattle.std.proofs.Common.{◌≡◌, ℕ, ◌<◌, ◌↔◌, ◌⊎◌, Bool, true, false, List, [], ◌++◌, length, refl, sym, ◌∙◌, ap, subst, arith}
+use Rattle.std.proofs.Common.{◌≡◌, ℕ, ◌<◌, ◌↔◌, ◌⊎◌, true, false, List, [], length, refl, sym, ◌∙◌, ap, subst, arith}
 use Rattle.std.proofs.Common.{inl, inr, length-append}
 use Rattle.std.proofs.lemmas.List.{append-nil}
-use Rattle.std.specs.Prelude.{Option, None, Some, IsSome, map}
+use Rattle.std.specs.Prelude.{Option, None, Some, IsSome}
 use Rattle.mb_message.specs.Front.{IsFront}
 use Rattle.mb_outside.specs.Contents.{Contents}
 use Rattle.mb_stream.specs.Denotation.{denotation}
-use Rattle.mb_stream.specs.Puts.{Put, signs_in}
-use Rattle.mb_frames.specs.Tapes.{tape_fault, tape_whole}
+use Rattle.mb_stream.specs.Puts.{signs_in}
+use Rattle.mb_frames.specs.Tapes.{tape_fault}
 use Rattle.mb_frames.specs.declared.tape.TapeFault.{TapeFault}
 use Rattle.mb_stream.specs.Reading.{signs_of}
 use Rattle.mb_din.specs.Recording.{din_reading}
@@ -19,15 +19,15 @@ use Rattle.mb_smf.specs.declared.writer.SmfFull.TheVariants as full
 use Rattle.mb_track.specs.Track.{track_marks, track_whole}
 use Rattle.mb_tapes.specs.Recorded.{CanBeRecorded, FirstLeftOut, recorded_file}
 use Rattle.mb_carrier.specs.declared.spec.Spec.{Spec}
-use Rattle.mb_words.specs.Command.{Command, RecordingTape, Means}
-use Rattle.mb_top.specs.Output.{Shows, fault_of, in_tape}
+use Rattle.mb_words.specs.Command.{RecordingTape, Means}
+use Rattle.mb_top.specs.Output.{in_tape}
 use Rattle.mb_top.specs.Answer.{Answered, EndsAs, taken_off, added_to, code_of, read_all}
 use Rattle.mb_top.specs.Ran.{MayAnswerWords, RanWords}
 use Rattle.mb_top.proofs.TaskLemmas.{did-plain}
 use Rattle.mb_top.specs.declared.fault.Fault.{Fault}
 use Rattle.mb_top.specs.declared.fault.Fault.TheVariants as fault
 use Rattle.mb_top.specs.declared.status.Status.{Status}
-use Rattle.mb_top.specs.declared.status.Status.TheVariants.{Done, Noted, Usage, Cut, Stopped}
+use Rattle.mb_top.specs.declared.status.Status.TheVariants.{Done, Noted, Usage, Cut, Stopped, BadTape}
 use Rattle.mb_top.specs.declared.status.Stop.TheVariants.{ReadFault, Refused, TooLong, Faulty}
 
 wrong : true ≡ false → ⊥
@@ -164,6 +164,8 @@ by_status s limit left read written tally (Stopped (Faulty fault.Memory)) ends =
       long_track = λ e. absurd (omega (arith, e));
       long_gap = λ e. absurd (omega (arith, e));
     }
+by_status s limit left read written tally (Stopped (Faulty (fault.Rig line cause))) ends = absurd (ends.2)
+by_status s limit left read written tally (BadTape name bad) ends = absurd ends
 by_status s limit left read written tally (Stopped (Faulty (fault.Rules f))) ends = absurd (ends.2)
 
 pub recorded-by : (words : List (List ℕ)) (limit : ℕ) (before after : Contents) (faults faults_now answer : ℕ)
@@ -227,5 +229,8 @@ records-completes words limit before after reads writes (Stopped (Faulty (fault.
     short is sound ran ends = inr (inr (inr refl))
 records-completes words limit before after reads writes (Stopped (Faulty fault.Memory)) s m may r f nr nw short is
     sound ran ends = inr (inl refl)
+records-completes words limit before after reads writes (Stopped (Faulty (fault.Rig line cause))) s m may r f nr nw short is
+    sound ran ends = absurd (ends.2)
+records-completes words limit before after reads writes (BadTape name bad) s m may r f nr nw short is sound ran ends = absurd ends
 records-completes words limit before after reads writes (Stopped (Faulty (fault.Rules g))) s m may r f nr nw short is
     sound ran ends = absurd (ends.2)

@@ -1,6 +1,6 @@
 -- A tape that is written again, its notes ended or as rules have it, as a job says it.
 use Rattle.std.proofs.Common.{◌≡◌, ℕ, Bool, not, true, false, List, [], ◌∷◌, ◌++◌, refl, sym, ◌∙◌, ap, subst, append_assoc}
-use Rattle.std.specs.Prelude.{Option, None}
+use Rattle.std.specs.Prelude.{Option}
 use Rattle.std.proofs.lemmas.Grind.{flat_map-append}
 use Rattle.mb_message.specs.Front.{IsFront}
 use Rattle.mb_stream.specs.Puts.{Put, puts_at, signs_in}

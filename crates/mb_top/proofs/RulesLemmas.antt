@@ -1,6 +1,6 @@
 -- The rules' file is opened and read at a handle of its own: what stands at the desk's other handles stays.
-use Rattle.std.proofs.Common.{◌≡◌, Bool, true, false, ℕ, ◌<◌, ◌==◌, if◌then◌else◌, List, [], ◌∷◌, ◌++◌, length, take, drop}
-use Rattle.std.proofs.Common.{refl, sym, ◌∙◌, ap, inl, inr, arith}
+use Rattle.std.proofs.Common.{◌≡◌, Bool, true, false, ℕ, ◌==◌, if◌then◌else◌, List, [], ◌∷◌, ◌++◌, length, take, drop}
+use Rattle.std.proofs.Common.{◌∙◌, ap, inl, inr, arith}
 use Rattle.std.proofs.lemmas.Bool.Decides.{nat_tests}
 use Rattle.mb_outside.specs.Contents.{Contents, after_open, after_read, after_write, next_handle, with_entry}
 use Rattle.mb_outside.specs.ContentsLaws.{after_read-none, after_write-none}
@@ -8,13 +8,14 @@ use Rattle.mb_filter.specs.Read.{rules_of}
 use Rattle.mb_filter.specs.declared.rule.Rule.{Rule}
 use Rattle.mb_filter.specs.declared.rules.RulesFault.{RulesFault}
 use Rattle.mb_words.specs.Command.{Command, Converting, Listing, Migrating, RecordingTape, PlayingFile, GuardingTape}
-use Rattle.mb_words.specs.Command.{FilteringTape, Selftesting}
-use Rattle.mb_top.specs.RulesFile.{HasBadRules, HasRules, NoRules, Opened, text_taken}
+use Rattle.mb_words.specs.Command.{FilteringTape, RunningRig, Selftesting}
+use Rattle.mb_top.specs.RulesFile.{HasBadRules, HasRules, NoRules}
+use Rattle.mb_top.specs.TextFile.{Opened, text_taken}
 use Rattle.mb_top.specs.Answer.{GotNone, GotRules, IsHandle}
 use Rattle.mb_top.specs.Ran.{written_of}
 use Rattle.mb_top.specs.declared.fault.Fault.TheVariants as fault
 use Rattle.mb_top.specs.declared.status.Status.{Status}
-use Rattle.mb_top.specs.declared.status.Status.TheVariants.{Done, Noted, Usage, Cut, Stopped}
+use Rattle.mb_top.specs.declared.status.Status.TheVariants.{Done, Noted, Usage, Cut, Stopped, BadTape}
 use Rattle.mb_top.specs.declared.status.Stop.TheVariants.{ReadFault, Refused, TooLong, Faulty}
 
 pub with_entry-other : (entries : ℕ → List ℕ) (handle : ℕ) (bytes : List ℕ) (other : ℕ) → (other == handle) ≡ false →
@@ -119,6 +120,7 @@ got-after PlayingFile rules input output words before start r = tt
 got-after (GuardingTape s) rules input output words before start r = tt
 got-after (FilteringTape file s) rules input output words before start r =
     rules-after file rules input output words before start r
+got-after (RunningRig file) rules input output words before start r = absurd r
 got-after (Selftesting start count) rules input output words before begun r = tt
 
 no-rules-after : (file : List ℕ) (status : Status) (input output words : List ℕ) (before start : Contents) →
@@ -131,6 +133,8 @@ no-rules-after file (Stopped (Faulty (fault.File f))) input output words before 
 no-rules-after file (Stopped (Faulty fault.LongTrack)) input output words before start r = absurd r
 no-rules-after file (Stopped (Faulty (fault.LongGap was now))) input output words before start r = absurd r
 no-rules-after file (Stopped (Faulty fault.Memory)) input output words before start r = absurd r
+no-rules-after file (Stopped (Faulty (fault.Rig line cause))) input output words before start r = absurd r
+no-rules-after file (BadTape name bad) input output words before start r = absurd r
 no-rules-after file (Stopped Refused) input output words before start r = absurd r
 no-rules-after file (Stopped TooLong) input output words before start r = absurd r
 no-rules-after file Done input output words before start r = absurd r
@@ -148,4 +152,5 @@ none-after PlayingFile status input output words before start r = absurd r
 none-after (GuardingTape s) status input output words before start r = absurd r
 none-after (FilteringTape file s) status input output words before start r =
     no-rules-after file status input output words before start r
+none-after (RunningRig file) status input output words before start r = absurd r
 none-after (Selftesting start count) status input output words before begun r = absurd r

@@ -16,12 +16,14 @@ use Rattle.mb_carrier.proofs.GrowLemmas.{live-grows, live-ends}
 use Rattle.mb_carrier.proofs.GrowSpecs.{grows}
 use Rattle.mb_carrier.proofs.LiveLemmas as live
 use Rattle.mb_words.specs.Command.{Command, Means}
-use Rattle.mb_top.specs.Output.{stopped_output_of, takes_rules}
+use Rattle.mb_top.specs.Output.{stopped_output_of, takes_file}
 use Rattle.mb_top.specs.Task.{with_rules}
 use Rattle.mb_top.proofs.TaskLemmas.{did-plain}
 use Rattle.mb_top.specs.Answer.{Answered, EndsAs, taken_off, added_to, code_of, read_part}
+use Rattle.arrayvec.specs.ArrayVec.{ArrayVec}
+use Rattle.mb_frames.specs.declared.tape.TapeFault.{TapeFault}
 use Rattle.mb_top.specs.declared.status.Status.{Status}
-use Rattle.mb_top.specs.declared.status.Status.TheVariants.{Done, Noted, Usage, Cut, Stopped}
+use Rattle.mb_top.specs.declared.status.Status.TheVariants.{Done, Noted, Usage, Cut, Stopped, BadTape}
 use Rattle.mb_top.specs.declared.status.Stop.TheVariants.{ReadFault, Refused, TooLong, Faulty}
 
 wrong : false ≡ true → ⊥
@@ -29,24 +31,27 @@ wrong e = cc
 
 -- a claim about a status before the end of the input, no write having failed
 before_the_end : (claim : Status → Type 0) → claim (Stopped ReadFault) → claim (Stopped TooLong) →
-    ((f : Fault) → claim (Stopped (Faulty f))) → (s : Status) → read_part (code_of s) ≡ true → claim s
-before_the_end claim fault long bad (Stopped ReadFault) e = fault
-before_the_end claim fault long bad (Stopped TooLong) e = long
-before_the_end claim fault long bad (Stopped (Faulty (its.Tape f))) e = bad (its.Tape f)
-before_the_end claim fault long bad (Stopped (Faulty (its.File f))) e = bad (its.File f)
-before_the_end claim fault long bad (Stopped (Faulty its.LongTrack)) e = absurd (wrong e)
-before_the_end claim fault long bad (Stopped (Faulty (its.LongGap was now))) e = absurd (wrong e)
-before_the_end claim fault long bad (Stopped (Faulty its.Memory)) e = absurd (wrong e)
-before_the_end claim fault long bad (Stopped (Faulty (its.Rules f))) e = absurd (wrong e)
-before_the_end claim fault long bad (Stopped Refused) e = absurd (wrong e)
-before_the_end claim fault long bad Done e = absurd (wrong e)
-before_the_end claim fault long bad Noted e = absurd (wrong e)
-before_the_end claim fault long bad Usage e = absurd (wrong e)
-before_the_end claim fault long bad Cut e = absurd (wrong e)
+    ((f : Fault) → claim (Stopped (Faulty f))) → ((name : ArrayVec ℕ) (f : TapeFault) → claim (BadTape name f)) →
+    (s : Status) → read_part (code_of s) ≡ true → claim s
+before_the_end claim fault long bad told (Stopped ReadFault) e = fault
+before_the_end claim fault long bad told (Stopped TooLong) e = long
+before_the_end claim fault long bad told (Stopped (Faulty (its.Tape f))) e = bad (its.Tape f)
+before_the_end claim fault long bad told (Stopped (Faulty (its.File f))) e = bad (its.File f)
+before_the_end claim fault long bad told (Stopped (Faulty its.LongTrack)) e = absurd (wrong e)
+before_the_end claim fault long bad told (Stopped (Faulty (its.LongGap was now))) e = absurd (wrong e)
+before_the_end claim fault long bad told (Stopped (Faulty its.Memory)) e = absurd (wrong e)
+before_the_end claim fault long bad told (Stopped (Faulty (its.Rules f))) e = absurd (wrong e)
+before_the_end claim fault long bad told (Stopped (Faulty (its.Rig line cause))) e = absurd (wrong e)
+before_the_end claim fault long bad told (BadTape name f) e = told name f
+before_the_end claim fault long bad told (Stopped Refused) e = absurd (wrong e)
+before_the_end claim fault long bad told Done e = absurd (wrong e)
+before_the_end claim fault long bad told Noted e = absurd (wrong e)
+before_the_end claim fault long bad told Usage e = absurd (wrong e)
+before_the_end claim fault long bad told Cut e = absurd (wrong e)
 
 pub live_written : (words : List (List ℕ)) (limit : ℕ) (before after : Contents) (faults faults_now answer : ℕ)
     (c : Command) →
-    takes_rules c ≡ false → read_part answer ≡ true → Means words c →
+    takes_file c ≡ false → read_part answer ≡ true → Means words c →
     (a : Answered words limit before after faults faults_now answer) →
     added_to 1 before after ≡ stopped_output_of (with_rules [] c) (taken_off 0 before after)
 live_written words limit before after faults faults_now answer c plain part m a =
@@ -54,7 +59,7 @@ live_written words limit before after faults faults_now answer c plain part m a 
     before_the_end
     (λ s. EndsAs t limit (before.left 0) (taken_off 0 before after) (added_to 1 before after) a.tally s →
     added_to 1 before after ≡ stopped_output_of t (taken_off 0 before after))
-    (λ ends. ends.0) (λ ends. ends.1) (λ f ends. ends.0) a.status (sym (ap read_part a.number) ∙ part)
+    (λ ends. ends.0) (λ ends. ends.1) (λ f ends. ends.0) (λ name f ends. absurd ends) a.status (sym (ap read_part a.number) ∙ part)
     (did-plain c limit before after a.tally a.status plain (a.did c m)).ends
 
 pub so_far-lacks : (first : Spec) (between : List Spec) (last : Spec) (read written : List ℕ) →

@@ -21,7 +21,7 @@ use Rattle.mb_top.specs.declared.status.Stop.{Stop}
 use Rattle.mb_top.proofs.ChainLemmas.{chain-none}
 use Rattle.mb_top.proofs.JobLemmas.{task-stays, task-closes}
 use Rattle.mb_words.specs.Command.{Command, Converting, Listing, Migrating, RecordingTape, PlayingFile, GuardingTape}
-use Rattle.mb_words.specs.Command.{FilteringTape, Selftesting}
+use Rattle.mb_words.specs.Command.{FilteringTape, RunningRig, Selftesting}
 use Rattle.mb_top.specs.Output.{fault_of, in_file, in_tape, output_of, is_whole, live_output_of, stopped_output_of}
 use Rattle.mb_top.specs.Output.{tally_of, may_want_memory, reads_tape, reads_file, records, LeavesOut, Shows, WantsMemory}
 use Rattle.mb_smf.specs.declared.writer.SmfFull.{SmfFull}
@@ -33,12 +33,12 @@ use Rattle.mb_top.specs.declared.ending.Ending.{Ending}
 use Rattle.mb_top.specs.declared.ending.Ending.TheVariants as ending
 use Rattle.mb_top.specs.declared.job.Job.{Job}
 use Rattle.mb_top.specs.declared.job.Job.TheVariants as job
-use Rattle.mb_top.specs.Output.{reads_from, takes_rules, writes_at_stop}
+use Rattle.mb_top.specs.Output.{reads_from, takes_file, writes_at_stop}
 use Rattle.mb_top.specs.Task.{Task, with_rules}
 use Rattle.mb_top.proofs.RulesLemmas.{written-nothing}
 use Rattle.mb_top.proofs.TaskLemmas.{got-plain, memory-task, quiet-task}
 use Rattle.mb_top.specs.Answer.{EndsAs, DidAll, WroteFront, all_but_last, PIECE}
-use Rattle.mb_top.specs.Ran.{Closed, CommandMay, CommandRan, Faulted, HasClosed, HasStopped, Ran, RanEnd, RanStop}
+use Rattle.mb_top.specs.Ran.{Closed, CommandDid, CommandMay, CommandRan, Faulted, HasClosed, HasStopped, Ran, RanEnd, RanStop}
 use Rattle.mb_top.specs.Ran.{MayAnswer, at_end}
 use Rattle.mb_top.specs.Ran.{written_of}
 use Rattle.mb_top.specs.declared.status.Status.{Status}
@@ -76,6 +76,7 @@ live-none (RecordingTape s) = refl
 live-none PlayingFile = refl
 live-none (GuardingTape s) = refl
 live-none (FilteringTape rules s) = refl
+live-none (RunningRig file) = refl
 live-none (Selftesting start count) = refl
 
 sound-none : (c : Task) → fault_of c [] ≡ None
@@ -86,6 +87,7 @@ sound-none (RecordingTape s) = refl
 sound-none PlayingFile = refl
 sound-none (GuardingTape s) = refl
 sound-none (FilteringTape rules s) = refl
+sound-none (RunningRig file) = refl
 sound-none (Selftesting start count) = refl
 
 pub so_far-none : (c : Task) (before : Contents) → SoFar c before before []
@@ -266,6 +268,7 @@ may-tape (RecordingTape s) input f e = refl
 may-tape PlayingFile input f e = absurd (no_tape (smf input).fault f e)
 may-tape (GuardingTape s) input f e = refl
 may-tape (FilteringTape rules s) input f e = refl
+may-tape (RunningRig file) input f e = cc
 may-tape (Selftesting start count) input f e = cc
 
 may-file : (c : Task) (input : List ℕ) (f : SmfFault) → fault_of c input ≡ Some (fault.File f) →
@@ -277,6 +280,7 @@ may-file (RecordingTape s) input f e = absurd (no_file (tape_fault input) f e)
 may-file PlayingFile input f e = refl
 may-file (GuardingTape s) input f e = absurd (no_file (tape_fault input) f e)
 may-file (FilteringTape rules s) input f e = absurd (no_file (tape_fault input) f e)
+may-file (RunningRig file) input f e = cc
 may-file (Selftesting start count) input f e = cc
 
 may-leave_out : (c : Task) (input : List ℕ) (why : SmfFull) → LeavesOut c input why → records c ≡ true
@@ -287,6 +291,7 @@ may-leave_out (RecordingTape s) input why e = refl
 may-leave_out PlayingFile input why e = absurd e
 may-leave_out (GuardingTape s) input why e = absurd e
 may-leave_out (FilteringTape rules s) input why e = absurd e
+may-leave_out (RunningRig file) input why e = absurd e
 may-leave_out (Selftesting start count) input why e = absurd e
 
 may-want : (c : Task) (input : List ℕ) → WantsMemory c input → may_want_memory c ≡ true
@@ -297,6 +302,7 @@ may-want (RecordingTape s) input e = refl
 may-want PlayingFile input e = e.0
 may-want (GuardingTape s) input e = e.0
 may-want (FilteringTape rules s) input e = e.0
+may-want (RunningRig file) input e = e.0
 may-want (Selftesting start count) input e = e.0
 
 pub may-faulty : (c : Task) (input : List ℕ) (f : Fault) → Shows c input f → MayAnswer c (Stopped (Faulty f))
@@ -305,6 +311,7 @@ may-faulty c input (fault.File f) e = may-file c input f e
 may-faulty c input fault.LongTrack e = may-leave_out c input full.Track e
 may-faulty c input (fault.LongGap was now) e = may-leave_out c input (full.Gap was now) e
 may-faulty c input fault.Memory e = may-want c input e
+may-faulty c input (fault.Rig line cause) e = absurd e
 may-faulty c input (fault.Rules f) e = absurd e
 
 -- how the stopping went, by what was handed over
@@ -544,6 +551,9 @@ may-kept c d was f took same w k =
 false-true : false ≡ true → ⊥
 false-true e = cc
 
+true-false : true ≡ false → ⊥
+true-false e = cc
+
 not-read_fault : Stopped Refused ≡ Stopped ReadFault → ⊥
 not-read_fault e = cc
 
@@ -688,7 +698,7 @@ halted-took (Err x) c was took other moved h = λ bytes s.
 
 -- a command that takes no rules began on the desk as it was
 pub command-ran : (c : Command) (t : Task) (limit : ℕ) (before after : Contents) (status : Status) →
-    t ≡ with_rules [] c → takes_rules c ≡ false → reads_from c 0 ≡ true → Ran t limit before after status →
+    t ≡ with_rules [] c → takes_file c ≡ false → reads_from c 0 ≡ true → Ran t limit before after status →
     CommandRan c limit before after status
 command-ran c t limit before after status same plain reads ran =
     let r = subst (λ (x : Task). Ran x limit before after status) same ran in
@@ -717,17 +727,31 @@ command-faults c t reads reads_now writes writes_now status same f =
     subst (λ (stops : Bool). Faulted (stops ≡ false) reads reads_now writes writes_now status)
     (ap writes_at_stop same ∙ quiet-task [] c) f
 
+-- what no rig's run did
+pub did-stream : (c : Command) (limit : ℕ) (before after : Contents) (status : Status) → takes_file c ≡ false →
+    CommandRan c limit before after status → CommandDid c limit before after status
+did-stream (Converting tally first between last) limit before after status plain r = r
+did-stream (Listing traced s) limit before after status plain r = r
+did-stream Migrating limit before after status plain r = r
+did-stream (RecordingTape s) limit before after status plain r = r
+did-stream PlayingFile limit before after status plain r = r
+did-stream (GuardingTape s) limit before after status plain r = r
+did-stream (FilteringTape file s) limit before after status plain r = r
+did-stream (RunningRig file) limit before after status plain r = absurd (true-false plain)
+did-stream (Selftesting start count) limit before after status plain r = r
+
 -- there was no memory for what a command needs
-pub nothing-ran : (c : Command) (limit : ℕ) (before : Contents) → may_want_memory c ≡ true →
+pub nothing-ran : (c : Command) (limit : ℕ) (before : Contents) → takes_file c ≡ false → may_want_memory c ≡ true →
     CommandRan c limit before before (Stopped (Faulty fault.Memory))
-nothing-ran (Converting tally first between last) limit before e = cc
-nothing-ran (Listing traced s) limit before e = cc
-nothing-ran Migrating limit before e = cc
-nothing-ran PlayingFile limit before e = cc
-nothing-ran (GuardingTape s) limit before e = cc
-nothing-ran (FilteringTape file s) limit before e = cc
-nothing-ran (Selftesting start count) limit before e = cc
-nothing-ran (RecordingTape s) limit before e =
+nothing-ran (Converting tally first between last) limit before plain e = cc
+nothing-ran (Listing traced s) limit before plain e = cc
+nothing-ran Migrating limit before plain e = cc
+nothing-ran PlayingFile limit before plain e = cc
+nothing-ran (GuardingTape s) limit before plain e = cc
+nothing-ran (FilteringTape file s) limit before plain e = cc
+nothing-ran (RunningRig file) limit before plain e = absurd (true-false plain)
+nothing-ran (Selftesting start count) limit before plain e = cc
+nothing-ran (RecordingTape s) limit before plain e =
     record {
       start = before;
       opened = inl refl;

@@ -1,7 +1,6 @@
 -- A tape that is written in the second form, as a job says it.
 use Rattle.std.proofs.Common.{◌≡◌, ℕ, Bool, not, List, [], ◌++◌, refl, sym, ◌∙◌, ap, subst, append-nil}
-use Rattle.std.proofs.lemmas.Result.{on_err_weaker}
-use Rattle.std.specs.Prelude.{Result, Ok, Err, IfOk, OnOk, OnErr, Option, false}
+use Rattle.std.specs.Prelude.{Option, false}
 use Rattle.mb_message.specs.Front.{IsPart}
 use Rattle.mb_outside.specs.TakingLaws.{part-behind}
 use Rattle.mb_frames.specs.Migrated.{migrated_from, tape2}

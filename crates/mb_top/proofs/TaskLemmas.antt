@@ -1,14 +1,14 @@
 -- What holds of a command with its rules is what holds of it, where rules don't matter.
-use Rattle.std.proofs.Common.{◌≡◌, ℕ, Bool, true, false, List, [], ◌∷◌, refl, sym, ◌∙◌, inl, inr}
+use Rattle.std.proofs.Common.{◌≡◌, ℕ, Bool, true, false, List, [], ◌∷◌, refl, sym, inl, inr}
 use Rattle.mb_outside.specs.Contents.{Contents}
 use Rattle.mb_filter.specs.declared.rule.Rule.{Rule}
 use Rattle.mb_carrier.specs.declared.spec.Spec.{Spec}
 use Rattle.mb_words.specs.Command.{Command, Converting, Listing, Migrating, RecordingTape, PlayingFile, GuardingTape}
-use Rattle.mb_words.specs.Command.{FilteringTape, Selftesting}
+use Rattle.mb_words.specs.Command.{FilteringTape, RunningRig, Selftesting}
 use Rattle.mb_words.specs.Meaning.{converting}
 use Rattle.mb_top.specs.Output.{HasNotes, HasNoNotes, ReadsOne, is_whole, may_want_memory, reads_from, reads_tape, rewrites}
-use Rattle.mb_top.specs.Output.{takes_rules, writes_at_stop}
-use Rattle.mb_top.specs.Answer.{ByRules, Did, DidCommand, EndsAs, GotNone, GotRules}
+use Rattle.mb_top.specs.Output.{takes_file, takes_rules, writes_at_stop}
+use Rattle.mb_top.specs.Answer.{ByRules, Did, DidCommand, DidRun, EndsAs, GotNone, GotRules}
 use Rattle.mb_top.specs.Ran.{EndsCommand}
 use Rattle.mb_top.specs.Task.{Task, with_rules}
 use Rattle.mb_top.specs.declared.status.Status.{Status}
@@ -24,6 +24,7 @@ rewrites-task rules (RecordingTape s) = refl
 rewrites-task rules PlayingFile = refl
 rewrites-task rules (GuardingTape s) = refl
 rewrites-task rules (FilteringTape file s) = refl
+rewrites-task rules (RunningRig file) = refl
 rewrites-task rules (Selftesting start count) = refl
 
 pub tape-task : (rules : List Rule) (c : Command) → reads_tape (with_rules rules c) ≡ reads_tape c
@@ -34,6 +35,7 @@ tape-task rules (RecordingTape s) = refl
 tape-task rules PlayingFile = refl
 tape-task rules (GuardingTape s) = refl
 tape-task rules (FilteringTape file s) = refl
+tape-task rules (RunningRig file) = refl
 tape-task rules (Selftesting start count) = refl
 
 pub memory-task : (rules : List Rule) (c : Command) → may_want_memory (with_rules rules c) ≡ may_want_memory c
@@ -44,6 +46,7 @@ memory-task rules (RecordingTape s) = refl
 memory-task rules PlayingFile = refl
 memory-task rules (GuardingTape s) = refl
 memory-task rules (FilteringTape file s) = refl
+memory-task rules (RunningRig file) = refl
 memory-task rules (Selftesting start count) = refl
 
 pub quiet-task : (rules : List Rule) (c : Command) → writes_at_stop (with_rules rules c) ≡ writes_at_stop c
@@ -54,6 +57,7 @@ quiet-task rules (RecordingTape s) = refl
 quiet-task rules PlayingFile = refl
 quiet-task rules (GuardingTape s) = refl
 quiet-task rules (FilteringTape file s) = refl
+quiet-task rules (RunningRig file) = refl
 quiet-task rules (Selftesting start count) = refl
 
 pub takes-task : (rules : List Rule) (c : Command) → takes_rules (with_rules rules c) ≡ takes_rules c
@@ -64,6 +68,7 @@ takes-task rules (RecordingTape s) = refl
 takes-task rules PlayingFile = refl
 takes-task rules (GuardingTape s) = refl
 takes-task rules (FilteringTape file s) = refl
+takes-task rules (RunningRig file) = refl
 takes-task rules (Selftesting start count) = refl
 
 pub reads-task : (rules : List Rule) (c : Command) (handle : ℕ) →
@@ -75,6 +80,7 @@ reads-task rules (RecordingTape s) handle = refl
 reads-task rules PlayingFile handle = refl
 reads-task rules (GuardingTape s) handle = refl
 reads-task rules (FilteringTape file s) handle = refl
+reads-task rules (RunningRig file) handle = refl
 reads-task rules (Selftesting start count) handle = refl
 
 pub whole-task : (rules : List Rule) (c : Command) (input : List ℕ) →
@@ -86,6 +92,7 @@ whole-task rules (RecordingTape s) input = refl
 whole-task rules PlayingFile input = refl
 whole-task rules (GuardingTape s) input = refl
 whole-task rules (FilteringTape file s) input = refl
+whole-task rules (RunningRig file) input = refl
 whole-task rules (Selftesting start count) input = refl
 
 pub converting-task : (rules : List Rule) (tally : Bool) (specs : List Spec) →
@@ -94,9 +101,9 @@ converting-task rules tally [] = refl
 converting-task rules tally (first ∷ []) = refl
 converting-task rules tally (first ∷ s ∷ specs) = refl
 
--- commands that take no rules
+-- commands that take no rules and no rig
 
-pub plain-rewrites : (c : Command) → rewrites c ≡ true → takes_rules c ≡ false
+pub plain-rewrites : (c : Command) → rewrites c ≡ true → takes_file c ≡ false
 plain-rewrites (Converting tally first between last) e = refl
 plain-rewrites (Listing traced s) e = refl
 plain-rewrites Migrating e = refl
@@ -104,9 +111,10 @@ plain-rewrites (RecordingTape s) e = refl
 plain-rewrites PlayingFile e = refl
 plain-rewrites (GuardingTape s) e = refl
 plain-rewrites (FilteringTape file s) e = absurd (wrong (sym e))
+plain-rewrites (RunningRig file) e = absurd (wrong (sym e))
 plain-rewrites (Selftesting start count) e = refl
 
-pub plain-reader : (c : Command) (s : Spec) → ReadsOne c s → takes_rules c ≡ false
+pub plain-reader : (c : Command) (s : Spec) → ReadsOne c s → takes_file c ≡ false
 plain-reader (Converting tally first between last) t e = refl
 plain-reader (Listing traced s) t e = refl
 plain-reader Migrating t e = refl
@@ -114,6 +122,7 @@ plain-reader (RecordingTape s) t e = refl
 plain-reader PlayingFile t e = refl
 plain-reader (GuardingTape s) t e = refl
 plain-reader (FilteringTape file s) t e = absurd e
+plain-reader (RunningRig file) t e = absurd e
 plain-reader (Selftesting start count) t e = refl
 
 pub reader-task : (c : Command) (s : Spec) → ReadsOne c s → ReadsOne (with_rules [] c) s
@@ -124,6 +133,7 @@ reader-task (RecordingTape s) t e = e
 reader-task PlayingFile t e = e
 reader-task (GuardingTape s) t e = e
 reader-task (FilteringTape file s) t e = e
+reader-task (RunningRig file) t e = e
 reader-task (Selftesting start count) t e = e
 
 pub notes-task : (c : Command) (input : List ℕ) → HasNotes (with_rules [] c) input → HasNotes c input
@@ -135,6 +145,7 @@ notes-task (RecordingTape s) input h = h
 notes-task PlayingFile input h = h
 notes-task (GuardingTape s) input h = h
 notes-task (FilteringTape file s) input h = h
+notes-task (RunningRig file) input h = h
 notes-task (Selftesting start count) input h = h
 
 pub no_notes-task : (c : Command) (input : List ℕ) → HasNoNotes (with_rules [] c) input → HasNoNotes c input
@@ -146,9 +157,10 @@ no_notes-task (RecordingTape s) input h = h
 no_notes-task PlayingFile input h = h
 no_notes-task (GuardingTape s) input h = h
 no_notes-task (FilteringTape file s) input h = h
+no_notes-task (RunningRig file) input h = h
 no_notes-task (Selftesting start count) input h = h
 
-pub got-plain : (c : Command) (before after : Contents) → takes_rules c ≡ false → GotRules c before after []
+pub got-plain : (c : Command) (before after : Contents) → takes_file c ≡ false → GotRules c before after []
 got-plain (Converting tally first between last) before after e = tt
 got-plain (Listing traced s) before after e = tt
 got-plain Migrating before after e = tt
@@ -156,9 +168,10 @@ got-plain (RecordingTape s) before after e = tt
 got-plain PlayingFile before after e = tt
 got-plain (GuardingTape s) before after e = tt
 got-plain (FilteringTape file s) before after e = absurd (wrong e)
+got-plain (RunningRig file) before after e = absurd (wrong e)
 got-plain (Selftesting start count) before after e = tt
 
-none-plain : (c : Command) (before after : Contents) (status : Status) → takes_rules c ≡ false →
+none-plain : (c : Command) (before after : Contents) (status : Status) → takes_file c ≡ false →
     GotNone c before after status → ⊥
 none-plain (Converting tally first between last) before after status e h = h
 none-plain (Listing traced s) before after status e h = h
@@ -167,9 +180,22 @@ none-plain (RecordingTape s) before after status e h = h
 none-plain PlayingFile before after status e h = h
 none-plain (GuardingTape s) before after status e h = h
 none-plain (FilteringTape file s) before after status e h = wrong e
+none-plain (RunningRig file) before after status e h = h
 none-plain (Selftesting start count) before after status e h = h
 
-holds-plain : (c : Command) (got : List Rule → Type 0) (claim : Task → Type 0) → takes_rules c ≡ false →
+run-plain : (c : Command) (limit : ℕ) (before after : Contents) (tally : List ℕ) (status : Status) →
+    takes_file c ≡ false → DidRun c limit before after tally status → ⊥
+run-plain (Converting tally first between last) limit before after said status e h = h
+run-plain (Listing traced s) limit before after said status e h = h
+run-plain Migrating limit before after said status e h = h
+run-plain (RecordingTape s) limit before after said status e h = h
+run-plain PlayingFile limit before after said status e h = h
+run-plain (GuardingTape s) limit before after said status e h = h
+run-plain (FilteringTape file s) limit before after said status e h = h
+run-plain (RunningRig file) limit before after said status e h = wrong e
+run-plain (Selftesting start count) limit before after said status e h = h
+
+holds-plain : (c : Command) (got : List Rule → Type 0) (claim : Task → Type 0) → takes_file c ≡ false →
     ByRules c got claim → claim (with_rules [] c)
 holds-plain (Converting tally first between last) got claim e b = b.holds
 holds-plain (Listing traced s) got claim e b = b.holds
@@ -178,18 +204,22 @@ holds-plain (RecordingTape s) got claim e b = b.holds
 holds-plain PlayingFile got claim e b = b.holds
 holds-plain (GuardingTape s) got claim e b = b.holds
 holds-plain (FilteringTape file s) got claim e b = absurd (wrong e)
+holds-plain (RunningRig file) got claim e b = absurd (wrong e)
 holds-plain (Selftesting start count) got claim e b = b.holds
 
 pub did-plain : (c : Command) (limit : ℕ) (before after : Contents) (tally : List ℕ) (status : Status) →
-    takes_rules c ≡ false → DidCommand c limit before after tally status →
+    takes_file c ≡ false → DidCommand c limit before after tally status →
     Did (with_rules [] c) limit before after tally status
 did-plain c limit before after tally status plain d = elim d [
   | inl b ↦ holds-plain c (GotRules c before after) (λ t. Did t limit before after tally status) plain b
-  | inr none ↦ absurd (none-plain c before after status plain none.1)
+  | inr other ↦ elim other [
+    | inl none ↦ absurd (none-plain c before after status plain none.1)
+    | inr run ↦ absurd (run-plain c limit before after tally status plain run)
+  ]
 ]
 
 pub ends-plain : (c : Command) (limit : ℕ) (before start : Contents) (input output tally : List ℕ) (status : Status) →
-    takes_rules c ≡ false → EndsCommand c limit before start input output tally status →
+    takes_file c ≡ false → EndsCommand c limit before start input output tally status →
     EndsAs (with_rules [] c) limit (before.left 0) input output tally status
 ends-plain c limit before start input output tally status plain d = elim d [
   | inl b ↦ holds-plain c (GotRules c before start)

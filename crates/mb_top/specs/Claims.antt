@@ -8,13 +8,15 @@
 --   OfRecording ..      of a tape that is recorded: by its spec, what it read and what it wrote
 --   OfListing ..        of a listing: by whether it is traced, its spec, what it read and what it wrote
 --   OfReader ..         of a command that reads one recording: by its spec, and all that there was to read
+--   OfRun ..            of a rig that is run: by its file
 --   IsTallied ..        the tally that a command asks for stands first on standard error
 --   Unhindered ..       no call failed
 use Rattle.std.specs.Prelude.{◌≡◌, ℕ, Bool, true, List, [], IsTrue}
 use Rattle.mb_outside.specs.Contents.{Contents}
 use Rattle.mb_carrier.specs.declared.spec.Spec.{Spec}
 use Rattle.mb_filter.specs.declared.rule.Rule.{Rule}
-use Rattle.mb_words.specs.Command.{Command, Converting, FilteringTape, Listing, RecordingTape, Means, Selftesting}
+use Rattle.mb_words.specs.Command.{Command, Converting, FilteringTape, Listing, RecordingTape, Means, RunningRig}
+use Rattle.mb_words.specs.Command.{Selftesting}
 use Rattle.mb_outside.specs.Cause.{Rose}
 use Rattle.mb_message.specs.Front.{IsFront}
 use Rattle.mb_top.specs.Output.{ReadsOne, tally_of}
@@ -69,6 +71,9 @@ OfReader tells words before claim = (c : Command) (s : Spec) → IsTrue tells �
 abbrev pub OfSelftest : (tells : Bool) (words : List (List ℕ)) (claim : (start count : ℕ) → Type 0) → Type 0
 OfSelftest tells words claim = (start count : ℕ) → IsTrue tells → Means words (Selftesting start count) →
     claim start count
+
+abbrev pub OfRun : (tells : Bool) (words : List (List ℕ)) (claim : (file : List ℕ) → Type 0) → Type 0
+OfRun tells words claim = (file : List ℕ) → IsTrue tells → Means words (RunningRig file) → claim file
 
 abbrev pub IsTallied : (tells : Bool) (words : List (List ℕ)) (answer : ℕ) (before after : Contents) → Type 0
 IsTallied tells words answer before after =

@@ -4,31 +4,33 @@
 --   CommandRan c ..        the same of a command, whose rules, if it takes any, were read before; one that reads nothing
 --                          read none
 --   RanEnd c bytes ..      the same at the end of an input of which what is known was written before
---   RanWords words ..      the same for words, which may mean no command
+--   CommandDid c ..        that, or what the run of a rig did
+--   RanWords words ..      the same for words, which may mean no command; DidWords, that or what the run of a rig did
 --   Closed, HasClosed      the tally was told at the end
 --   RanStop c bytes stop ..  the same where an input of which what is known was written is stopped
 --   HasStopped ..          how the stopping itself went
 --   Faulted quiet ..       a fault of reading or writing came exactly where the status tells of one, but for one of
 --                          reading where what was written behind it failed, which isn't so of a command that is quiet
 --   at_end cut noted       how a command ends at the end of its input
-use Rattle.std.specs.Prelude.{◌≡◌, ℕ, ◌<◌, ◌≤◌, Bool, true, false, List, [], ◌++◌, length, None, ◌⊎◌}
+use Rattle.std.specs.Prelude.{◌≡◌, ℕ, ◌<◌, ◌≤◌, Bool, ◌||◌, true, false, List, [], ◌++◌, length, None, ◌⊎◌}
 use Rattle.mb_outside.specs.Cause.{Rose}
 use Rattle.mb_outside.specs.Contents.{Contents, after_read, after_write}
 use Rattle.mb_message.specs.Front.{IsFront}
 use Rattle.mb_filter.specs.declared.rule.Rule.{Rule}
 use Rattle.mb_carrier.specs.declared.spec.Spec.{Spec}
-use Rattle.mb_words.specs.Command.{Command, CommandOf, FilteringTape, Means}
+use Rattle.mb_words.specs.Command.{Command, CommandOf, FilteringTape, RunningRig, Means}
 use Rattle.mb_message.specs.Front.{IsPart}
 use Rattle.mb_top.specs.Output.{live_output_of, output_of, stopped_output_of, may_want_memory, answers_notes, fault_of}
 use Rattle.mb_top.specs.Output.{tally_of}
-use Rattle.mb_top.specs.Output.{reads_tape, reads_file, reads_from, records, takes_rules, writes_at_stop}
-use Rattle.mb_top.specs.RulesFile.{Opened}
+use Rattle.mb_top.specs.Output.{reads_tape, reads_file, reads_from, records, runs_rig, takes_rules, writes_at_stop}
+use Rattle.mb_top.specs.RigFile.{RigDid}
+use Rattle.mb_top.specs.TextFile.{Opened}
 use Rattle.mb_top.specs.Task.{Task, with_rules}
 use Rattle.mb_top.specs.declared.fault.Fault.TheVariants as fault
 use Rattle.mb_top.specs.declared.status.Stop.{Stop}
 use Rattle.mb_top.specs.Answer.{ByRules, EndsAs, GotNone, GotRules}
 use Rattle.mb_top.specs.declared.status.Status.{Status}
-use Rattle.mb_top.specs.declared.status.Status.TheVariants.{Done, Noted, Usage, Cut, Stopped}
+use Rattle.mb_top.specs.declared.status.Status.TheVariants.{Done, Noted, Usage, Cut, Stopped, BadTape}
 use Rattle.mb_top.specs.declared.status.Stop.TheVariants.{ReadFault, Refused, Faulty, TooLong}
 
 -- standard input was read, standard output written, and a tally to standard error
@@ -66,6 +68,11 @@ pub record CommandRan (c : Command) (limit : ℕ) (before after : Contents) (sta
   pub within : length input ≤ limit
   pub ends : EndsCommand c limit before start input output tally status
 
+-- a rig that was run has its own
+abbrev pub CommandDid : Command → (limit : ℕ) (before after : Contents) → Status → Type 0
+CommandDid (RunningRig file) limit before after status = RigDid file limit before after status
+CommandDid c limit before after status = CommandRan c limit before after status
+
 pub record RanWords (words : List (List ℕ)) (limit : ℕ) (before after : Contents) (status : Status) : Type 0 where
   pub start : Contents
   pub opened : (start ≡ before)
@@ -79,6 +86,11 @@ pub record RanWords (words : List (List ℕ)) (limit : ℕ) (before after : Cont
   pub unread : (c : Command) → Means words c → reads_from c 0 ≡ false → input ≡ []
   pub within : length input ≤ limit
   pub ends : (c : Command) → Means words c → EndsCommand c limit before start input output tally status
+
+abbrev pub DidWords : (words : List (List ℕ)) (limit : ℕ) (before after : Contents) → Status → Type 0
+DidWords words limit before after status =
+    RanWords words limit before after status
+    ⊎ ((file : List ℕ) × Means words (RunningRig file) × RigDid file limit before after status)
 
 pub record Faulted (quiet : Type 0) (reads reads_now writes writes_now : ℕ) (status : Status) : Type 0 where
   pub reads_later : reads ≤ reads_now
@@ -128,19 +140,22 @@ HasStopped c stop writes writes_now status =
     ⊎ ((status ≡ Stopped Refused) × Rose writes writes_now × (writes ≤ writes_now) × (writes_at_stop c ≡ true))
 
 -- want of memory is answered of commands alone that may want it, notes of `check` alone, what may be wrong of an input
--- of those that read one, a fault of a tape or of a file of those that read one, and one of rules of those that take any
+-- of those that read one, a fault of a tape or of a file of those that read one, one of rules of those that take any,
+-- and one of a rig of those that run one
 abbrev pub MayAnswer : {R : Type 0} → CommandOf R → Status → Type 0
 MayAnswer c Usage = ⊥
 MayAnswer c Noted = answers_notes c ≡ true
-MayAnswer c Cut = reads_from c 0 ≡ true
-MayAnswer c (Stopped ReadFault) = reads_from c 0 ≡ true
-MayAnswer c (Stopped TooLong) = reads_from c 0 ≡ true
+MayAnswer c Cut = (reads_from c 0 || runs_rig c) ≡ true
+MayAnswer c (Stopped ReadFault) = (reads_from c 0 || runs_rig c) ≡ true
+MayAnswer c (Stopped TooLong) = (reads_from c 0 || runs_rig c) ≡ true
 MayAnswer c (Stopped (Faulty (fault.Tape f))) = reads_tape c ≡ true
 MayAnswer c (Stopped (Faulty (fault.File f))) = reads_file c ≡ true
 MayAnswer c (Stopped (Faulty fault.LongTrack)) = records c ≡ true
 MayAnswer c (Stopped (Faulty (fault.LongGap was now))) = records c ≡ true
 MayAnswer c (Stopped (Faulty fault.Memory)) = may_want_memory c ≡ true
 MayAnswer c (Stopped (Faulty (fault.Rules f))) = takes_rules c ≡ true
+MayAnswer c (Stopped (Faulty (fault.Rig line cause))) = runs_rig c ≡ true
+MayAnswer c (BadTape file f) = runs_rig c ≡ true
 MayAnswer c _ = Unit {0}
 
 -- the same of a command, whatever its rules

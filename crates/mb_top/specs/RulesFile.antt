@@ -1,18 +1,16 @@
 -- The file that a filter reads its rules from, which has the next handle: its text is read to its end, or to the byte
 -- that is one too many, and judged then.
 --
---   text_taken before after           what was taken of it
 --   HasRules file before after rules  all of it was read, and is these rules
 --   HasBadRules file before after f   the text is refused
---   Opened before start file          it was opened, and some of it was read
 --   NoRules file before after status  why there are no rules
 --   RulesRead file before after ..    the rules were read, or there are none
-use Rattle.std.specs.Prelude.{◌≡◌, ℕ, ◌≤◌, ◌⊎◌, false, List, [], ◌∷◌, ◌++◌, length, Result, Ok, Err}
-use Rattle.mb_message.specs.Front.{IsFront}
-use Rattle.mb_outside.specs.Contents.{Contents, after_open, after_read, next_handle}
+use Rattle.std.specs.Prelude.{◌≡◌, ℕ, ◌⊎◌, false, List, [], ◌∷◌, ◌++◌, length, Result, Ok, Err}
+use Rattle.mb_outside.specs.Contents.{Contents, next_handle}
 use Rattle.mb_filter.specs.Read.{rules_of}
 use Rattle.mb_filter.specs.declared.rule.Rule.{Rule}
 use Rattle.mb_filter.specs.declared.rules.RulesFault.{RulesFault}
+use Rattle.mb_top.specs.TextFile.{Opened, text_taken}
 use Rattle.mb_top.specs.declared.fault.Fault.TheVariants as fault
 use Rattle.mb_top.specs.declared.status.Status.{Status}
 use Rattle.mb_top.specs.declared.status.Status.TheVariants.{Stopped}
@@ -22,9 +20,6 @@ use Rattle.mb_top.specs.declared.status.Stop.TheVariants.{ReadFault, Faulty}
 -- one byte more than a text may have
 abbrev pub TOO_MANY : ℕ
 TOO_MANY = 4097
-
-abbrev pub text_taken : (before after : Contents) → List ℕ
-text_taken before after = after.taken (next_handle before)
 
 pub record HasRules (file : List ℕ) (before after : Contents) (rules : List Rule) : Type 0 where
   pub given : after.given ≡ before.given ++ (file, false) ∷ []
@@ -48,22 +43,12 @@ IsRulesStop (Stopped ReadFault) = Unit {0}
 IsRulesStop (Stopped (Faulty (fault.Rules f))) = Unit {0}
 IsRulesStop status = ⊥
 
-pub record Opened (before start : Contents) (file : List ℕ) : Type 0 where
-  pub content : List ℕ
-  pub count : ℕ
-  pub contents : start ≡ after_read (next_handle before) count (after_open file content before)
-
 abbrev pub RulesRead : (file : List ℕ) (before after : Contents) → Result (List Rule) Stop → Type 0
 RulesRead file before after (Ok rules) = Opened before after file × HasRules file before after rules
 RulesRead file before after (Err stop) =
     ((after ≡ before) ⊎ Opened before after file) × NoRules file before after (Stopped stop)
 
 -- for the steps
-
--- a text was taken off a handle
-pub record TextRead (handle : ℕ) (before after : Contents) (text : List ℕ) : Type 0 where
-  pub front : IsFront text (before.left handle)
-  pub contents : after ≡ after_read handle (length text) before
 
 abbrev pub HasJudged : Result (List Rule) RulesFault → Result (List Rule) Stop → Type 0
 HasJudged found (Ok rules) = found ≡ Ok rules

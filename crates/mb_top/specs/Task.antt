@@ -5,7 +5,7 @@
 use Rattle.std.specs.Prelude.{List}
 use Rattle.mb_filter.specs.declared.rule.Rule.{Rule}
 use Rattle.mb_words.specs.Command.{Command, CommandOf, Converting, Listing, Migrating, RecordingTape, PlayingFile}
-use Rattle.mb_words.specs.Command.{GuardingTape, FilteringTape, Selftesting}
+use Rattle.mb_words.specs.Command.{GuardingTape, FilteringTape, RunningRig, Selftesting}
 
 abbrev pub Task : Type 0
 Task = CommandOf (List Rule)
@@ -18,4 +18,5 @@ with_rules rules (RecordingTape s) = RecordingTape s
 with_rules rules PlayingFile = PlayingFile
 with_rules rules (GuardingTape s) = GuardingTape s
 with_rules rules (FilteringTape file s) = FilteringTape rules s
+with_rules rules (RunningRig file) = RunningRig file
 with_rules rules (Selftesting start count) = Selftesting start count

@@ -2,6 +2,7 @@
 
 use mb_filter::RulesFault;
 use mb_frames::TapeFault;
+use mb_rig::Why;
 use mb_smf::SmfFault;
 
 /// What is wrong with what is read, or with what it would be written as.
@@ -19,4 +20,6 @@ pub(crate) enum Fault {
     Memory,
     /// The rules of a filter have a fault.
     Rules(RulesFault),
+    /// The text of a rig has a faulty line.
+    Rig { line: u32, why: Why },
 }

@@ -223,7 +223,8 @@ const NO_COMMANDS: &[&[&str]] = &[
     &["tally", "convert", "din", "din"],
     &["trace", "din", "din"],
     &["selftest", "0", "1000001"],
-    &["run", "r.txt"],
+    &["run"],
+    &["run", "r.txt", "o.bin"],
     &["check", "usb:16"],
 ];
 

@@ -24,6 +24,8 @@ mod ports;
 #[cfg(test)]
 mod rewriting;
 #[cfg(test)]
+mod rigs;
+#[cfg(test)]
 mod row;
 #[cfg(test)]
 mod selftest;

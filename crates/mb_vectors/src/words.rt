@@ -32,6 +32,7 @@ fn command_of(rt: &impl Abort, alloc: Global, words: &[&str]) -> ArrayVec<u8, 64
                 spec: Spec::Ble(512),
             },
         ) => b"filter",
+        Ok(Command::Run("r.txt")) => b"run",
         Ok(
             Command::Selftest {
                 start: 2147483647,
@@ -55,6 +56,8 @@ const WORDS: &[(&[&str], &[u8])] = &[
     (&["check", "fw:00"], b"none"),
     (&["check", "ble"], b"check of BLE-MIDI"),
     (&["check", "ble/20"], b"check of BLE-MIDI"),
+    (&["run", "r.txt"], b"run"),
+    (&["run"], b"none"),
     (&["check", "ble/512"], b"another"),
     (&["check", "ble/513"], b"none"),
     (&["convert", "tally"], b"none"),

@@ -9,9 +9,10 @@ use Rattle.mb_carrier.specs.declared.spec.Spec.TheVariants.{Din, Usb, Fire, Ble}
 use Rattle.mb_carrier.proofs.WordLemmas.{one_spec, word-is_spec, first_letter, size-letter}
 use Rattle.std.specs.Prelude.{Option, Some, None}
 use Rattle.mb_words.specs.Command.{Command, Converting, Listing, Migrating, RecordingTape, PlayingFile, GuardingTape}
-use Rattle.mb_words.specs.Command.{FilteringTape, Selftesting, CommandName, ToConvert, ToTrace, ToCheck, ToMigrate}
-use Rattle.mb_words.specs.Command.{ToRecord, ToPlay, ToGuard, ToFilter, ToSelftest, Means, AreWordsOf, name_word}
-use Rattle.mb_words.specs.Command.{command_name, name_of, asks_tally, specs_of, options_of}
+use Rattle.mb_words.specs.Command.{FilteringTape, RunningRig, Selftesting, CommandName, ToConvert, ToTrace, ToCheck}
+use Rattle.mb_words.specs.Command.{ToMigrate, ToRecord, ToPlay, ToGuard, ToFilter, ToRun, ToSelftest, Means, AreWordsOf}
+use Rattle.mb_words.specs.Command.{name_word}
+use Rattle.mb_words.specs.Command.{command_name, asks_tally, specs_of, options_of}
 use Rattle.mb_words.specs.Meaning.{front_of, end_of, converting}
 
 pub heads : (x y : List ℕ) (xs ys : List (List ℕ)) → x ∷ xs ≡ y ∷ ys → x ≡ y
@@ -98,7 +99,8 @@ named w =
     else (if bytes_eq w (codes "play") then Some ToPlay
     else (if bytes_eq w (codes "guard") then Some ToGuard
     else (if bytes_eq w (codes "filter") then Some ToFilter
-    else (if bytes_eq w (codes "selftest") then Some ToSelftest else None))))))))
+    else (if bytes_eq w (codes "run") then Some ToRun
+    else (if bytes_eq w (codes "selftest") then Some ToSelftest else None)))))))))
 
 named_again : (n : CommandName) → named (name_word n) ≡ Some n
 named_again ToConvert = refl
@@ -109,6 +111,7 @@ named_again ToRecord = refl
 named_again ToPlay = refl
 named_again ToGuard = refl
 named_again ToFilter = refl
+named_again ToRun = refl
 named_again ToSelftest = refl
 
 same_some : (m n : CommandName) → Some m ≡ Some n → m ≡ n
@@ -132,6 +135,7 @@ rebuilt ToRecord tally specs = RecordingTape (first_of specs)
 rebuilt ToPlay tally specs = PlayingFile
 rebuilt ToGuard tally specs = GuardingTape (first_of specs)
 rebuilt ToFilter tally specs = FilteringTape [] (first_of specs)
+rebuilt ToRun tally specs = RunningRig []
 rebuilt ToSelftest tally specs = Selftesting 0 0
 
 front_again : (s : Spec) (between : List Spec) (last : Spec) → front_of s (between ++ last ∷ []) ≡ s ∷ between
@@ -159,6 +163,7 @@ HasSpecs (RecordingTape s) = Unit {0}
 HasSpecs PlayingFile = Unit {0}
 HasSpecs (GuardingTape s) = Unit {0}
 HasSpecs (FilteringTape file s) = ⊥
+HasSpecs (RunningRig file) = ⊥
 HasSpecs (Selftesting start count) = ⊥
 
 again : (c : Command) → HasSpecs c → rebuilt (command_name c) (asks_tally c) (specs_of c) ≡ c
@@ -170,6 +175,7 @@ again (RecordingTape s) h = refl
 again PlayingFile h = refl
 again (GuardingTape s) h = refl
 again (FilteringTape file s) h = absurd h
+again (RunningRig file) h = absurd h
 again (Selftesting start count) h = absurd h
 
 options_are : (c : Command) → HasSpecs c → options_of c ≡ options (asks_tally c)
@@ -180,6 +186,7 @@ options_are (RecordingTape s) h = refl
 options_are PlayingFile h = refl
 options_are (GuardingTape s) h = refl
 options_are (FilteringTape file s) h = absurd h
+options_are (RunningRig file) h = absurd h
 options_are (Selftesting start count) h = absurd h
 
 -- the same words have the same name
@@ -203,6 +210,7 @@ one_of_specs words c d h k m n =
 -- the names of these commands
 abbrev names_specs : CommandName → Bool
 names_specs ToFilter = false
+names_specs ToRun = false
 names_specs ToSelftest = false
 names_specs _ = true
 
@@ -215,6 +223,7 @@ specs_named (RecordingTape s) h = refl
 specs_named PlayingFile h = refl
 specs_named (GuardingTape s) h = refl
 specs_named (FilteringTape file s) h = absurd h
+specs_named (RunningRig file) h = absurd h
 specs_named (Selftesting start count) h = absurd h
 
 -- a self-test
@@ -243,16 +252,27 @@ same_filter words file other s t m n =
     (same_specs n.arguments (s ∷ []) (t ∷ [])
     (subst (λ (ws : List (List ℕ)). AreWordsOf ws (s ∷ [])) left m.are_specs) n.are_specs)
 
--- a command has specs, or is a filter or a self-test
+-- a rig that is run
+
+same_running : (words : List (List ℕ)) (file other : List ℕ) → Means words (RunningRig file) →
+    Means words (RunningRig other) → ◌≡◌ {A = Command} (RunningRig file) (RunningRig other)
+same_running words file other m n =
+    ap (λ (x : List ℕ). RunningRig x)
+    (heads file other m.arguments n.arguments (tails _ _ _ _ (sym m.words_are ∙ n.words_are)))
+
+-- a command has specs, or is a filter, a run or a self-test
 
 abbrev IsFilter : Command → Type 0
 IsFilter c = (file : List ℕ) × (s : Spec) × (c ≡ FilteringTape file s)
+
+abbrev IsRunning : Command → Type 0
+IsRunning c = (file : List ℕ) × (c ≡ RunningRig file)
 
 abbrev IsSelftest : Command → Type 0
 IsSelftest c = (start : ℕ) × (count : ℕ) × (c ≡ Selftesting start count)
 
 abbrev IsOther : Command → Type 0
-IsOther c = IsFilter c ⊎ IsSelftest c
+IsOther c = IsFilter c ⊎ (IsRunning c ⊎ IsSelftest c)
 
 form : (c : Command) → HasSpecs c ⊎ IsOther c
 form (Converting tally first between last) = inl tt
@@ -262,11 +282,13 @@ form (RecordingTape s) = inl tt
 form PlayingFile = inl tt
 form (GuardingTape s) = inl tt
 form (FilteringTape file s) = inr (inl (file, s, refl))
-form (Selftesting start count) = inr (inr (start, count, refl))
+form (RunningRig file) = inr (inr (inl (file, refl)))
+form (Selftesting start count) = inr (inr (inr (start, count, refl)))
 
 other_named : (c : Command) → IsOther c → names_specs (command_name c) ≡ false
 other_named c (inl f) = ap (λ (x : Command). names_specs (command_name x)) f.2
-other_named c (inr t) = ap (λ (x : Command). names_specs (command_name x)) t.2
+other_named c (inr (inl r)) = ap (λ (x : Command). names_specs (command_name x)) r.1
+other_named c (inr (inr t)) = ap (λ (x : Command). names_specs (command_name x)) t.2
 
 false-true : false ≡ true → ⊥
 false-true e = cc
@@ -275,22 +297,32 @@ not_other : (words : List (List ℕ)) (c d : Command) → HasSpecs c → IsOther
 not_other words c d h k m n =
     false-true (sym (other_named d k) ∙ (sym (ap names_specs (names_agree words c d m n)) ∙ specs_named c h))
 
-not_both : (words : List (List ℕ)) (file : List ℕ) (s : Spec) (start count : ℕ) →
-    Means words (FilteringTape file s) → Means words (Selftesting start count) → ⊥
-not_both words file s start count m n =
-    (let e = names_agree words (FilteringTape file s) (Selftesting start count) m n in differ e)
-  where
-    differ : ToFilter ≡ ToSelftest → ⊥
-    differ e = cc
+other_names : (words : List (List ℕ)) (c d e f : Command) → c ≡ e → d ≡ f → Means words c → Means words d →
+    (command_name e ≡ command_name f → ⊥) → ⊥
+other_names words c d e f is are m n differ =
+    differ (names_agree words e f (subst (Means words) is m) (subst (Means words) are n))
+
+filter-run : ToFilter ≡ ToRun → ⊥
+filter-run e = cc
+
+filter-selftest : ToFilter ≡ ToSelftest → ⊥
+filter-selftest e = cc
+
+run-selftest : ToRun ≡ ToSelftest → ⊥
+run-selftest e = cc
 
 one_other : (words : List (List ℕ)) (c d : Command) → IsOther c → IsOther d → Means words c → Means words d → c ≡ d
 one_other words c d (inl f) (inl g) m n =
     f.2 ∙ (same_filter words f.0 g.0 f.1 g.1 (subst (Means words) f.2 m) (subst (Means words) g.2 n) ∙ sym g.2)
-one_other words c d (inl f) (inr t) m n =
-    absurd (not_both words f.0 f.1 t.0 t.1 (subst (Means words) f.2 m) (subst (Means words) t.2 n))
-one_other words c d (inr t) (inl f) m n =
-    absurd (not_both words f.0 f.1 t.0 t.1 (subst (Means words) f.2 n) (subst (Means words) t.2 m))
-one_other words c d (inr t) (inr u) m n =
+one_other words c d (inl f) (inr (inl r)) m n = absurd (other_names words c d _ _ f.2 r.1 m n filter-run)
+one_other words c d (inl f) (inr (inr t)) m n = absurd (other_names words c d _ _ f.2 t.2 m n filter-selftest)
+one_other words c d (inr (inl r)) (inl f) m n = absurd (other_names words d c _ _ f.2 r.1 n m filter-run)
+one_other words c d (inr (inl r)) (inr (inl q)) m n =
+    r.1 ∙ (same_running words r.0 q.0 (subst (Means words) r.1 m) (subst (Means words) q.1 n) ∙ sym q.1)
+one_other words c d (inr (inl r)) (inr (inr t)) m n = absurd (other_names words c d _ _ r.1 t.2 m n run-selftest)
+one_other words c d (inr (inr t)) (inl f) m n = absurd (other_names words d c _ _ f.2 t.2 n m filter-selftest)
+one_other words c d (inr (inr t)) (inr (inl r)) m n = absurd (other_names words d c _ _ r.1 t.2 n m run-selftest)
+one_other words c d (inr (inr t)) (inr (inr u)) m n =
     t.2 ∙ (same_selftest words t.0 t.1 u.0 u.1 (subst (Means words) t.2 m) (subst (Means words) u.2 n) ∙ sym u.2)
 
 pub one_command : (words : List (List ℕ)) (c d : Command) → Means words c → Means words d → c ≡ d

@@ -1,14 +1,14 @@
 -- What is read of words, place by place.
 use Rattle.std.proofs.Common.{◌≡◌, ℕ, zero, suc, ◌+◌, ◌≤◌, Bool, true, false, List, [], ◌∷◌, ◌++◌, length, drop, refl}
 use Rattle.std.proofs.Common.{sym, ◌∙◌, ap, subst, arith, codes, decimal, length-append, append_assoc}
-use Rattle.std.specs.Prelude.{slice_get, slice_index_or, Option, Some, None, IfNone}
+use Rattle.std.specs.Prelude.{slice_get, Option, Some, None, IfNone}
 use Rattle.std.proofs.lemmas.List.{length-drop, append-nil}
 use Rattle.mb_carrier.specs.Word.{IsWordOf}
 use Rattle.mb_carrier.specs.declared.spec.Spec.{Spec}
 use Rattle.mb_words.specs.Command.{Command, Converting, Listing, Migrating, RecordingTape, PlayingFile, GuardingTape}
-use Rattle.mb_words.specs.Command.{FilteringTape, Selftesting, CommandName, ToConvert, ToTrace, ToCheck, ToMigrate}
-use Rattle.mb_words.specs.Command.{ToRecord, ToPlay, ToGuard, ToFilter, ToSelftest, Means, AreWordsOf, IsAlone, IsBuilt}
-use Rattle.mb_words.specs.Command.{name_word, listing_name, command_name, name_of, options_of, specs_of}
+use Rattle.mb_words.specs.Command.{FilteringTape, RunningRig, Selftesting, CommandName, ToConvert, ToTrace, ToCheck}
+use Rattle.mb_words.specs.Command.{ToMigrate, ToRecord, ToPlay, ToGuard, ToFilter, ToRun, ToSelftest, Means, AreWordsOf}
+use Rattle.mb_words.specs.Command.{IsAlone, IsBuilt, name_word, listing_name, command_name, name_of, options_of, specs_of}
 use Rattle.mb_words.specs.Meaning.{converting, place_of_specs}
 use Rattle.mb_words.proofs.CommandLemmas.{as_many, no_tally, same_name, specs_again, front_length}
 
@@ -85,17 +85,18 @@ no_name words w c e none m = none (command_name c) (first_word words w c m e)
 pub no_name-by : (w : List ℕ) →
     (w ≡ codes "convert" → ⊥) → (w ≡ codes "trace" → ⊥) → (w ≡ codes "check" → ⊥) → (w ≡ codes "migrate" → ⊥) →
     (w ≡ codes "record" → ⊥) → (w ≡ codes "play" → ⊥) → (w ≡ codes "guard" → ⊥) → (w ≡ codes "filter" → ⊥) →
-    (w ≡ codes "selftest" → ⊥) →
+    (w ≡ codes "run" → ⊥) → (w ≡ codes "selftest" → ⊥) →
     (n : CommandName) → w ≡ name_word n → ⊥
-no_name-by w convert trace check migrate record_tape play guard filter selftest ToConvert = convert
-no_name-by w convert trace check migrate record_tape play guard filter selftest ToTrace = trace
-no_name-by w convert trace check migrate record_tape play guard filter selftest ToCheck = check
-no_name-by w convert trace check migrate record_tape play guard filter selftest ToMigrate = migrate
-no_name-by w convert trace check migrate record_tape play guard filter selftest ToRecord = record_tape
-no_name-by w convert trace check migrate record_tape play guard filter selftest ToPlay = play
-no_name-by w convert trace check migrate record_tape play guard filter selftest ToGuard = guard
-no_name-by w convert trace check migrate record_tape play guard filter selftest ToFilter = filter
-no_name-by w convert trace check migrate record_tape play guard filter selftest ToSelftest = selftest
+no_name-by w convert trace check migrate record_tape play guard filter run selftest ToConvert = convert
+no_name-by w convert trace check migrate record_tape play guard filter run selftest ToTrace = trace
+no_name-by w convert trace check migrate record_tape play guard filter run selftest ToCheck = check
+no_name-by w convert trace check migrate record_tape play guard filter run selftest ToMigrate = migrate
+no_name-by w convert trace check migrate record_tape play guard filter run selftest ToRecord = record_tape
+no_name-by w convert trace check migrate record_tape play guard filter run selftest ToPlay = play
+no_name-by w convert trace check migrate record_tape play guard filter run selftest ToGuard = guard
+no_name-by w convert trace check migrate record_tape play guard filter run selftest ToFilter = filter
+no_name-by w convert trace check migrate record_tape play guard filter run selftest ToRun = run
+no_name-by w convert trace check migrate record_tape play guard filter run selftest ToSelftest = selftest
 
 -- a name and specs
 
@@ -155,6 +156,7 @@ is_alone_name ToRecord = false
 is_alone_name ToPlay = true
 is_alone_name ToGuard = false
 is_alone_name ToFilter = false
+is_alone_name ToRun = false
 is_alone_name ToSelftest = false
 
 alone-name : (c : Command) → IsAlone c → is_alone_name (command_name c) ≡ true
@@ -165,6 +167,7 @@ alone-name (RecordingTape s) a = (let e = a.no_specs in cc)
 alone-name PlayingFile a = refl
 alone-name (GuardingTape s) a = (let e = a.no_specs in cc)
 alone-name (FilteringTape file s) a = (let e = a.no_specs in cc)
+alone-name (RunningRig file) a = (let e = a.no_options in cc)
 alone-name (Selftesting start count) a = (let e = a.no_options in cc)
 
 alone-length : (words : List (List ℕ)) (c : Command) → is_alone_name (command_name c) ≡ true → Means words c →
@@ -179,6 +182,7 @@ alone-length words PlayingFile e m =
     let none = as_many m.arguments [] m.are_specs in omega (arith, ap length m.words_are, none)
 alone-length words (GuardingTape s) e m = cc
 alone-length words (FilteringTape file s) e m = cc
+alone-length words (RunningRig file) e m = cc
 alone-length words (Selftesting start count) e m = cc
 
 pub only_alone : (words : List (List ℕ)) (c d : Command) → slice_get words 0 ≡ Some (name_of d) → IsAlone d →
@@ -196,6 +200,7 @@ has_lone_spec ToRecord = true
 has_lone_spec ToPlay = false
 has_lone_spec ToGuard = true
 has_lone_spec ToFilter = false
+has_lone_spec ToRun = false
 has_lone_spec ToSelftest = false
 
 lone-spec : (words : List (List ℕ)) (c : Command) → has_lone_spec (command_name c) ≡ true → Means words c →
@@ -207,6 +212,7 @@ lone-spec words (RecordingTape s) e m = (s, plain-only words (RecordingTape s) r
 lone-spec words PlayingFile e m = cc
 lone-spec words (GuardingTape s) e m = (s, plain-only words (GuardingTape s) refl m)
 lone-spec words (FilteringTape file s) e m = cc
+lone-spec words (RunningRig file) e m = cc
 lone-spec words (Selftesting start count) e m = cc
 
 pub only_lone_spec : (words : List (List ℕ)) (c : Command) (n : CommandName) → has_lone_spec n ≡ true →
@@ -237,6 +243,7 @@ only_filter words c e m = by_name c (name-at words ToFilter c e m) m
     by_name : (d : Command) → command_name d ≡ ToFilter → Means words d → (s : Spec) × AreWordsOf (drop 2 words) (s ∷ [])
     by_name (FilteringTape file s) same n =
         (s, subst (λ (xs : List (List ℕ)). AreWordsOf xs (s ∷ [])) (sym (ap (drop 2) n.words_are)) n.are_specs)
+    by_name (RunningRig file) same n = cc
     by_name (Selftesting start count) same n = cc
     by_name (Converting tally first between last) same n = cc
     by_name (Listing true s) same n = cc
@@ -245,6 +252,37 @@ only_filter words c e m = by_name c (name-at words ToFilter c e m) m
     by_name (RecordingTape s) same n = cc
     by_name PlayingFile same n = cc
     by_name (GuardingTape s) same n = cc
+
+-- a rig that is run
+
+pub running-means : (words : List (List ℕ)) (file : List ℕ) → length words ≡ 2 →
+    slice_get words 0 ≡ Some (codes "run") → slice_get words 1 ≡ Some file → Means words (RunningRig file)
+running-means words file two name first =
+    record {
+      arguments = [];
+      words_are = begins_twice words (codes "run") file name first
+          ∙ ap (λ (xs : List (List ℕ)). codes "run" ∷ file ∷ xs)
+          (none_left (drop 2 words) (omega (arith, two, length-drop 2 words)));
+      are_specs = tt;
+      built = tt;
+    }
+
+pub only_running : (words : List (List ℕ)) (c : Command) → slice_get words 0 ≡ Some (codes "run") →
+    Means words c → length words ≡ 2
+only_running words c e m = by_name c (name-at words ToRun c e m) m
+  where
+    by_name : (d : Command) → command_name d ≡ ToRun → Means words d → length words ≡ 2
+    by_name (RunningRig file) same n =
+        let none = as_many n.arguments [] n.are_specs in omega (arith, ap length n.words_are, none)
+    by_name (Converting tally first between last) same n = cc
+    by_name (Listing true s) same n = cc
+    by_name (Listing false s) same n = cc
+    by_name Migrating same n = cc
+    by_name (RecordingTape s) same n = cc
+    by_name PlayingFile same n = cc
+    by_name (GuardingTape s) same n = cc
+    by_name (FilteringTape file s) same n = cc
+    by_name (Selftesting start count) same n = cc
 
 -- a self-test
 
@@ -298,6 +336,7 @@ pub only_selftest : (words : List (List ℕ)) (c : Command) → slice_get words 
 only_selftest words c e m = by_name c (name-at words ToSelftest c e m) m
   where
     by_name : (d : Command) → command_name d ≡ ToSelftest → Means words d → IsSelftest words
+    by_name (RunningRig file) same n = cc
     by_name (Selftesting start count) same n = is_selftest words start count n
     by_name (Converting tally first between last) same n = cc
     by_name (Listing true s) same n = cc
@@ -381,6 +420,7 @@ only_conversion words tally c e asked unasked m = by_name c (name-at words ToCon
     by_name PlayingFile same n = cc
     by_name (GuardingTape s) same n = cc
     by_name (FilteringTape file s) same n = cc
+    by_name (RunningRig file) same n = cc
     by_name (Selftesting start count) same n = cc
 
 pub none_some : {A : Type 0} (r : Option A) (x : A) → r ≡ None → r ≡ Some x → ⊥

@@ -2,7 +2,7 @@
 --
 --   CommandOf R             a conversion by two or more specs, the listing of a recording, a tape that is written once
 --                           more in the second form, as a Standard MIDI File, with its notes ended or as rules have it,
---                           such a file as a tape, or a self-test; rules are given as R
+--                           such a file as a tape, tapes merged as a rig has it, or a self-test; rules are given as R
 --   Command                 the same with rules named by their file
 --   CommandName             what it is called; name_word, the word
 --   name_of c               its first word
@@ -26,6 +26,7 @@ pub data CommandOf (R : Type 0) : Type 0 where
   PlayingFile : CommandOf R
   GuardingTape : (s : Spec) → CommandOf R
   FilteringTape : (rules : R) (s : Spec) → CommandOf R
+  RunningRig : (file : List ℕ) → CommandOf R
   Selftesting : (start count : ℕ) → CommandOf R
 
 abbrev pub Command : Type 0
@@ -40,6 +41,7 @@ pub data CommandName : Type 0 where
   ToPlay : CommandName
   ToGuard : CommandName
   ToFilter : CommandName
+  ToRun : CommandName
   ToSelftest : CommandName
 
 abbrev pub name_word : CommandName → List ℕ
@@ -51,6 +53,7 @@ name_word ToRecord = codes "record"
 name_word ToPlay = codes "play"
 name_word ToGuard = codes "guard"
 name_word ToFilter = codes "filter"
+name_word ToRun = codes "run"
 name_word ToSelftest = codes "selftest"
 
 -- `trace` prints marks and notes, `check` notes alone
@@ -65,6 +68,7 @@ command_name (RecordingTape s) = ToRecord
 command_name PlayingFile = ToPlay
 command_name (GuardingTape s) = ToGuard
 command_name (FilteringTape rules s) = ToFilter
+command_name (RunningRig file) = ToRun
 command_name (Selftesting start count) = ToSelftest
 
 abbrev pub name_of : Command → List ℕ
@@ -78,6 +82,7 @@ asks_tally (RecordingTape s) = false
 asks_tally PlayingFile = false
 asks_tally (GuardingTape s) = false
 asks_tally (FilteringTape rules s) = false
+asks_tally (RunningRig file) = false
 asks_tally (Selftesting start count) = false
 
 abbrev pub options_of : Command → List (List ℕ)
@@ -88,6 +93,7 @@ options_of (RecordingTape s) = []
 options_of PlayingFile = []
 options_of (GuardingTape s) = []
 options_of (FilteringTape file s) = file ∷ []
+options_of (RunningRig file) = file ∷ []
 options_of (Selftesting start count) = decimal start ∷ decimal count ∷ []
 
 abbrev pub specs_of : {R : Type 0} → CommandOf R → List Spec
@@ -98,6 +104,7 @@ specs_of (RecordingTape s) = s ∷ []
 specs_of PlayingFile = []
 specs_of (GuardingTape s) = s ∷ []
 specs_of (FilteringTape rules s) = s ∷ []
+specs_of (RunningRig file) = []
 specs_of (Selftesting start count) = []
 
 abbrev pub AreWordsOf : (words : List (List ℕ)) → List Spec → Type 0
@@ -115,6 +122,7 @@ IsBuilt (RecordingTape s) = Unit {0}
 IsBuilt PlayingFile = Unit {0}
 IsBuilt (GuardingTape s) = Unit {0}
 IsBuilt (FilteringTape file s) = Unit {0}
+IsBuilt (RunningRig file) = Unit {0}
 IsBuilt (Selftesting start count) = (start < 2 ^ 31) × (count ≤ 1000000)
 
 -- a command that is its name alone

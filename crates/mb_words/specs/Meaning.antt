@@ -11,7 +11,7 @@ use Rattle.mb_carrier.specs.declared.spec.Spec.TheVariants as spec
 use Rattle.mb_words.specs.Command as mean
 use Rattle.mb_words.specs.declared.command.Command.{Command}
 use Rattle.mb_words.specs.declared.command.Command.TheVariants.{Convert, Trace, Check, Migrate, RecordTape, Play, Guard}
-use Rattle.mb_words.specs.declared.command.Command.TheVariants.{Filter, Selftest}
+use Rattle.mb_words.specs.declared.command.Command.TheVariants.{Filter, Run, Selftest}
 
 abbrev pub place_of_specs : (tally : Bool) → ℕ
 place_of_specs tally = if tally then 2 else 1
@@ -43,6 +43,7 @@ meaning (RecordTape s) = mean.RecordingTape s
 meaning Play = mean.PlayingFile
 meaning (Guard s) = mean.GuardingTape s
 meaning (Filter file s) = mean.FilteringTape file.now s
+meaning (Run file) = mean.RunningRig file.now
 meaning (Selftest start count) = mean.Selftesting start count
 
 abbrev pub IsWithin : Command → Type 0
@@ -54,4 +55,5 @@ IsWithin (RecordTape s) = IsSpec s
 IsWithin Play = Unit {0}
 IsWithin (Guard s) = IsSpec s
 IsWithin (Filter file s) = IsSpec s
+IsWithin (Run file) = Unit {0}
 IsWithin (Selftest start count) = (start < 2 ^ 31) × (count ≤ 1000000)

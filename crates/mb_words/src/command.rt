@@ -26,6 +26,8 @@ pub enum Command<'a> {
     Guard(Spec),
     /// Write a tape once more as a byte line's, its messages as the rules of a file have them.
     Filter { file: &'a str, spec: Spec },
+    /// Merge tapes as the rig of a file has it.
+    Run(&'a str),
     /// Check the program on so many units that it makes, the generator's first state given.
     Selftest { start: u32, count: u32 },
 }

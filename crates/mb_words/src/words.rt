@@ -66,6 +66,8 @@ fn read_command(words: &Args) -> Option<Command<'_>>
         read_guarding(words)
     } else if name == "filter" {
         read_filtering(words)
+    } else if name == "run" {
+        read_running(words)
     } else if name == "selftest" {
         read_selftest(words)
     } else {
@@ -132,6 +134,19 @@ fn read_filtering(words: &Args) -> Option<Command<'_>>
         file: words.word(1),
         spec,
     })
+}
+
+/// `run RIGFILE`. Any word may name a file.
+fn read_running(words: &Args) -> Option<Command<'_>>
+    requires { slice_get words.now 0 ≡ Some (codes "run") }
+    ensures found { IfSome result (λ c. Means words.now (meaning c)) }
+    ensures within { IfSome result IsWithin }
+    ensures only { IfNone result ((c : words_mean.Command) → Means words.now c → ⊥) }
+{
+    if words.len() != 2 {
+        return None;
+    }
+    Some(Command::Run(words.word(1)))
 }
 
 /// The one spec behind a name.

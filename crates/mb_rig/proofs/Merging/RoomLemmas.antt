@@ -186,6 +186,9 @@ offered-none : (m : Merger) (offered : Option Passed) → m.offered ≡ offered 
 offered-none m None is = held-offered m (least m.links) ∙ is
 offered-none m (Some p) is = refl
 
+pub next-idle : (m : Merger) → (next_of m).1.offered ≡ None
+next-idle m = offered-none m m.offered refl
+
 pub next-offers : (m : Merger) (x : ℕ) → OffersOf (next_of m).1 x
 next-offers m x p is = absurd (none≢some p (sym (offered-none m m.offered refl) ∙ is))
 

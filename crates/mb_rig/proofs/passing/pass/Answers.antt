@@ -1,7 +1,7 @@
-use Rattle.std.proofs.Common.{arith}
-use Rattle.std.proofs.lemmas.Result.{on_ok_weaker}
+use Rattle.std.proofs.Common.{ℕ, List, [], ◌++◌, refl, sym, ◌∙◌, ap, append-nil, arith}
+use Rattle.std.proofs.lemmas.Result.{on_err_weaker, on_ok_weaker}
 use Rattle.mb_rig.proofs.OutsLemmas.{among-one, outs-kept}
-use Rattle.mb_rig.proofs.FrameLemmas.{bay-among, bay-report, bay-then, wrote-some}
+use Rattle.mb_rig.proofs.FrameLemmas.{bay-among, bay-report, bay-then, line-wrote, wrote-some}
 use Rattle.mb_rig.specs.PassingLine.{passing_text}
 use Rattle.mb_rig.proofs.passing.pass.Goals as goal
 
@@ -36,3 +36,22 @@ returns-clause-wrote g c = λ first putss low st.
     (bay-among D.tells D.contents D.read_faults first _ c.args.desk.now c.pass_on.new.desk
     (c.pass_on.ensures.among first putss st))
     (bay-report D.tells D.contents D.read_faults first _ some.0 c.pass_on.new.desk c.tell_passing.new.desk some.1)
+
+pub returns-in-Err-clause-part : goal.returns-in-Err-clause-part
+returns-in-Err-clause-part g c = λ first putss low st t. (
+  [],
+  (passing_text c.args.moment c.args.passed, refl),
+  (c.pass_on.ensures.among first putss st).others t 1 (λ lower higher. omega (arith, low, lower))
+      ∙ sym (append-nil ((g.D.Desk.contents c.args.desk.now).written 1)),
+)
+
+pub returns-clause-part : goal.returns-clause-part
+returns-clause-part g c =
+    let D = g.D.Desk in
+    on_err_weaker c.tell_passing.result (λ part first putss low st t. (
+      part.0,
+      (part.1.0, part.1.1),
+      line-wrote D.tells D.contents D.read_faults c.pass_on.new.desk c.tell_passing.new.desk part.0 part.2 t
+          ∙ ap (λ (xs : List ℕ). xs ++ part.0)
+          ((c.pass_on.ensures.among first putss st).others t 1 (λ lower higher. omega (arith, low, lower))),
+    )) c.tell_passing.ensures.part

@@ -3,7 +3,7 @@ use Rattle.std.specs.Prelude.{slice_get}
 use Rattle.std.proofs.lemmas.List.{length-set}
 use Rattle.std.proofs.lemmas.Option.{slice_get-get_or}
 use Rattle.mb_rig.specs.Turn.{IsTurn, MayStep}
-use Rattle.mb_rig.proofs.RunLemmas.{halted, owed-falls, run-may, run-over, run-stepped, touched-step}
+use Rattle.mb_rig.proofs.RunLemmas.{caused, halted, owed-falls, run-may, run-over, run-stepped, touched-step}
 use Rattle.mb_rig.proofs.steps.run_steps.Goals as goal
 
 pub returns-in_default-clause-over : goal.returns-in_default-clause-over
@@ -64,13 +64,9 @@ returns-in-Err-clause-stops g c = λ s before base first limit links play st.
     c.steps.desk r.links r.play c.turns_of-turns.result.items x c.in-Some.turn.moment f r.stands
     c.turns_of-turns.ensures.each (subst (λ (ts : List (Option ℕ)). IsTurn ts x c.in-Some.turn.moment)
     c.as_slice.ensures.value c.in-Some.ensures.turn) at in
-    halted D.tells D.contents s before base first limit (length c.steps.bay.outs.items)
-    (D.read_faults c.args.desk.now) (D.read_faults c.steps.desk) (D.read_faults c.step.new.desk)
-    (D.write_faults c.args.desk.now) (D.write_faults c.steps.desk) (D.write_faults c.step.new.desk) c.steps.feeds
-    c.steps.bay c.step.new.bay c.steps.desk c.step.new.desk r.links r.play x f c.step.new.self c.in-Err.stop
+    halted D.tells D.contents s before base first limit (length c.steps.bay.outs.items) c.steps.feeds c.steps.bay c.step.new.bay c.steps.desk c.step.new.desk r.links r.play x f c.step.new.self c.in-Err.stop
     c.end_of.result r.stands at c.step.ensures.same
-    (c.step.ensures.touched s before first r.links r.play may) c.steps.invariant.reads c.steps.invariant.writes
-    c.end_of.ensures (c.in-Err.ensures.stops s before first r.links r.play may)
+    (c.step.ensures.touched s before first r.links r.play may) c.end_of.ensures (c.in-Err.ensures.stops s before first r.links r.play may)
 
 pub returns-in-Err-clause-touched : goal.returns-in-Err-clause-touched
 returns-in-Err-clause-touched g c = λ s before base first limit links play st.
@@ -128,3 +124,11 @@ steps-preserved g c =
       reads = c.in_default-step.ensures.read_faults ∙ c.steps.invariant.reads;
       writes = c.in_default-step.ensures.write_faults ∙ c.steps.invariant.writes;
     }
+
+pub returns-in-Err-clause-cause : goal.returns-in-Err-clause-cause
+returns-in-Err-clause-cause g c =
+    let D = g.D.Desk in
+    caused c.in-Some.turn.link (D.read_faults c.args.desk.now) (D.read_faults c.steps.desk)
+    (D.read_faults c.step.new.desk) (D.write_faults c.args.desk.now) (D.write_faults c.steps.desk)
+    (D.write_faults c.step.new.desk) c.in-Err.stop c.end_of.result c.steps.invariant.reads c.steps.invariant.writes
+    c.end_of.ensures c.in-Err.ensures.cause

@@ -9,13 +9,16 @@ use Rattle.mb_top.specs.Output.{HasNotes, HasNoNotes}
 use Rattle.mb_top.specs.Answer.{Says, code_of, read_all}
 use Rattle.mb_top.specs.declared.status.Status.TheVariants.{Done, Noted, Stopped}
 use Rattle.mb_top.specs.declared.status.Stop.TheVariants.{Refused}
-use Rattle.mb_top.proofs.AnswerLemmas.{answered, went_through, ends-at_status, cut-at_end, reads_all, completes}
+use Rattle.mb_top.proofs.AnswerLemmas.{went_through, ends-at_status, cut-at_end, reads_all, completes}
 use Rattle.mb_top.proofs.AnswerLemmas.{is_canonical, usage_only, is_meant, read_faults, write_fault, no_write_fault}
 use Rattle.mb_top.proofs.DistanceLemmas.{keeps_distances}
 use Rattle.mb_top.proofs.AnswerLemmas.{wants_memory, noted_alone, no_fault, tape_alone, file_alone, one-reads}
-use Rattle.mb_top.proofs.AnswerLemmas.{rules_alone, selftest-ends, tallied}
+use Rattle.mb_top.proofs.AnswerLemmas.{reader-streams, rig_alone, rules_alone, selftest-ends, streamed, tallied}
 use Rattle.mb_top.proofs.TaskLemmas.{ends-plain, memory-task, no_notes-task, notes-task, plain-reader, plain-rewrites}
 use Rattle.mb_top.proofs.TaskLemmas.{reader-task, rewrites-task, tape-task}
+use Rattle.mb_top.proofs.RigClaimLemmas.{all-gave, bad-link, long-link, merged, merged-front, merged-part}
+use Rattle.mb_top.proofs.RigClaimLemmas.{merged-unread, rig-alone-given, rig-judged, run-cut, runs}
+use Rattle.mb_top.proofs.RigSeenLemmas.{answered, gave, seen-answer}
 use Rattle.mb_top.proofs.FilteredLemmas.{filter-did, filtered-meaning, filters-completes, none-filtered, rules-judged}
 use Rattle.mb_top.proofs.CarriedLemmas.{carried, carried-completes, carried-part, carried-task, cut-carried, file-told}
 use Rattle.mb_top.proofs.CarriedLemmas.{filter-writes-all, not-four, notes-ended, notes-silent, part-task, shows-none}
@@ -38,7 +41,7 @@ returns-clause-contents g c = λ tells.
     let words = c.say.ensures.said tells in
     let text = c.as_slice.ensures.value ∙ c.text.ensures in
     answered _ _ _ _ _ _ _ _ _ _ _ c.run-status.result _ words.0 (omega (arith, c.code.ensures))
-    (c.run-status.ensures.ran tells) c.run-status.ensures.faults words.1
+    c.run-status.ensures.may (c.run-status.ensures.did tells) c.run-status.ensures.faults words.1
     (subst (Says _ words.0) text words.2) (λ all_said. words.3 (all_said ∙ sym text))
 
 pub returns-clause-headline : goal.returns-clause-headline
@@ -155,8 +158,9 @@ returns-clause-reads_all g c = λ command s tells m reads unhindered short unwan
     unhindered.reading unhindered.writing short
     (λ input f front. no_fault (with_rules [] command) s input f (reader-task command s reads)
     (memory-task [] command ∙ unwanted))
-    (c.run-status.ensures.ran tells)
-    (let ran = c.run-status.ensures.ran tells in
+    (streamed _ _ _ _ c.run-status.result command (reader-streams command s reads) m (c.run-status.ensures.did tells))
+    (let ran = streamed _ _ _ _ c.run-status.result command (reader-streams command s reads) m
+    (c.run-status.ensures.did tells) in
     ends-plain command _ (g.D.Desk.contents c.args.desk.now) ran.start ran.input ran.output ran.tally _ (plain-reader command s reads) (ran.ends command m))
 
 pub returns-clause-complete : goal.returns-clause-complete
@@ -275,8 +279,8 @@ returns-clause-records g c = λ s tells m unhindered short is_whole.
     unhindered.reading unhindered.writing short is_whole
     (λ input told front. tape.whole-sound_tape _ input told
     (whole-tape s ((g.D.Desk.contents c.args.desk.now).left 0) is_whole) front)
-    (c.run-status.ensures.ran tells)
-    (let ran = c.run-status.ensures.ran tells in
+    (streamed _ _ _ _ c.run-status.result (RecordingTape s) refl m (c.run-status.ensures.did tells))
+    (let ran = streamed _ _ _ _ c.run-status.result (RecordingTape s) refl m (c.run-status.ensures.did tells) in
     ends-plain (RecordingTape s) _ (g.D.Desk.contents c.args.desk.now) ran.start ran.input ran.output ran.tally _ refl (ran.ends (RecordingTape s) m)))
 
 pub returns-clause-rewritten_part : goal.returns-clause-rewritten_part
@@ -311,8 +315,8 @@ returns-clause-migrates g c = λ tells m unhindered short is_whole.
     (c.code.ensures ∙ ap code_of e))
     unhindered.reading unhindered.writing short (λ input f front. shows-none Migrating input (writes-all Migrating refl)
     (λ g. tape.whole-sound_tape _ input g is_whole front) f)
-    (c.run-status.ensures.ran tells)
-    (let ran = c.run-status.ensures.ran tells in
+    (streamed _ _ _ _ c.run-status.result Migrating refl m (c.run-status.ensures.did tells))
+    (let ran = streamed _ _ _ _ c.run-status.result Migrating refl m (c.run-status.ensures.did tells) in
     ends-plain Migrating _ (g.D.Desk.contents c.args.desk.now) ran.start ran.input ran.output ran.tally _ refl (ran.ends Migrating m)))
     is_whole (returns-clause-contents g c tells)
 
@@ -327,8 +331,8 @@ returns-clause-plays g c = λ tells m unhindered short ended sound.
     (c.code.ensures ∙ ap code_of e))
     unhindered.reading unhindered.writing short (λ input f front. shows-none PlayingFile input (writes-all PlayingFile refl)
     (λ g. whole-sound_file _ input g sound front) f)
-    (c.run-status.ensures.ran tells)
-    (let ran = c.run-status.ensures.ran tells in
+    (streamed _ _ _ _ c.run-status.result PlayingFile refl m (c.run-status.ensures.did tells))
+    (let ran = streamed _ _ _ _ c.run-status.result PlayingFile refl m (c.run-status.ensures.did tells) in
     ends-plain PlayingFile _ (g.D.Desk.contents c.args.desk.now) ran.start ran.input ran.output ran.tally _ refl (ran.ends PlayingFile m)))
     ended (returns-clause-contents g c tells)
 
@@ -343,8 +347,8 @@ returns-clause-guards g c = λ s tells m unhindered short is_whole.
     (c.code.ensures ∙ ap code_of e))
     unhindered.reading unhindered.writing short (λ input f front. shows-none (GuardingTape s) input (writes-all (GuardingTape s) refl)
     (λ told. tape.whole-sound_tape _ input told (whole-tape s ((g.D.Desk.contents c.args.desk.now).left 0) is_whole) front) f)
-    (c.run-status.ensures.ran tells)
-    (let ran = c.run-status.ensures.ran tells in
+    (streamed _ _ _ _ c.run-status.result (GuardingTape s) refl m (c.run-status.ensures.did tells))
+    (let ran = streamed _ _ _ _ c.run-status.result (GuardingTape s) refl m (c.run-status.ensures.did tells) in
     ends-plain (GuardingTape s) _ (g.D.Desk.contents c.args.desk.now) ran.start ran.input ran.output ran.tally _ refl (ran.ends (GuardingTape s) m)))
     is_whole (returns-clause-contents g c tells)
 
@@ -415,7 +419,8 @@ returns-clause-filters g c = λ file s tells m unhindered short is_whole.
     (c.code.ensures ∙ ap code_of e))
     (λ e. write_fault _ _ _ _ _ _ c.run-status.result _ c.code.ensures c.say.ensures.writes c.run-status.ensures.faults
     (c.code.ensures ∙ ap code_of e))
-    unhindered.reading unhindered.writing short is_whole (c.run-status.ensures.ran tells) c.code.ensures
+    unhindered.reading unhindered.writing short is_whole
+    (streamed _ _ _ _ c.run-status.result (FilteringTape file s) refl m (c.run-status.ensures.did tells)) c.code.ensures
     (returns-clause-contents g c tells)
 
 pub returns-clause-selftest : goal.returns-clause-selftest
@@ -431,3 +436,64 @@ returns-clause-selftest_front g c = λ start count tells m four.
 pub returns-clause-selftest_ends : goal.returns-clause-selftest_ends
 returns-clause-selftest_ends g c = λ start count m.
     selftest-ends _ start count c.run-status.result _ c.code.ensures c.run-status.ensures.may m
+
+-- a rig that is run
+
+pub returns-clause-merged : goal.returns-clause-merged
+returns-clause-merged g c = λ file tells m all.
+    let a = returns-clause-contents g c tells in
+    merged file _ _ _ a.status _ a.number (seen-answer _ _ _ _ _ _ _ file m a) all
+
+pub returns-clause-run_cut : goal.returns-clause-run_cut
+returns-clause-run_cut g c = λ file tells m all.
+    let a = returns-clause-contents g c tells in
+    run-cut file _ _ _ a.status _ a.number (seen-answer _ _ _ _ _ _ _ file m a) all
+
+pub returns-clause-merged_front : goal.returns-clause-merged_front
+returns-clause-merged_front g c = λ file tells m stopped.
+    let a = returns-clause-contents g c tells in
+    merged-front file _ _ _ a.status _ a.number (seen-answer _ _ _ _ _ _ _ file m a) stopped
+
+pub returns-clause-merged_unread : goal.returns-clause-merged_unread
+returns-clause-merged_unread g c = λ file tells m three.
+    let a = returns-clause-contents g c tells in
+    merged-unread file _ _ _ a.status _ a.number (seen-answer _ _ _ _ _ _ _ file m a) three
+
+pub returns-clause-merged_part : goal.returns-clause-merged_part
+returns-clause-merged_part g c = λ file tells m four.
+    let a = returns-clause-contents g c tells in
+    merged-part file _ _ _ a.status _ a.number (seen-answer _ _ _ _ _ _ _ file m a) four
+
+pub returns-clause-bad_link : goal.returns-clause-bad_link
+returns-clause-bad_link g c = λ file tells m seven.
+    let a = returns-clause-contents g c tells in
+    bad-link file _ _ _ a.status _ a.number (seen-answer _ _ _ _ _ _ _ file m a) seven
+
+pub returns-clause-long_link : goal.returns-clause-long_link
+returns-clause-long_link g c = λ file tells m eight.
+    let a = returns-clause-contents g c tells in
+    long-link file _ _ _ a.status _ a.number (seen-answer _ _ _ _ _ _ _ file m a) eight
+
+pub returns-clause-run_gives : goal.returns-clause-run_gives
+returns-clause-run_gives g c = λ file tells m.
+    let a = returns-clause-contents g c tells in
+    let d = seen-answer _ _ _ _ _ _ _ file m a in (
+      gave file _ _ _ a.status d,
+      λ all. all-gave file _ _ _ a.status _ a.number d all,
+      λ few. rig-alone-given file _ _ _ a.status _ a.number d few,
+    )
+
+pub returns-clause-bad_rig : goal.returns-clause-bad_rig
+returns-clause-bad_rig g c = λ file tells m.
+    let a = returns-clause-contents g c tells in
+    rig-judged file _ _ _ a.status _ a.number (seen-answer _ _ _ _ _ _ _ file m a)
+
+pub returns-clause-bad_rig_alone : goal.returns-clause-bad_rig_alone
+returns-clause-bad_rig_alone g c = rig_alone _ c.run-status.result _ c.code.ensures c.run-status.ensures.may
+
+pub returns-clause-runs : goal.returns-clause-runs
+returns-clause-runs g c = λ file tells m s unhindered read short all.
+    let a = returns-clause-contents g c tells in
+    runs file _ _ _ a.status _ a.number (seen-answer _ _ _ _ _ _ _ file m a)
+    (λ three. unhindered.reading (returns-clause-read_fault g c three))
+    (λ four. unhindered.writing (returns-clause-write_fault g c four)) s read short all

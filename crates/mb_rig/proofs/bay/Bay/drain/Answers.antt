@@ -1,5 +1,5 @@
 use Rattle.std.proofs.Common.{refl, sym, ◌∙◌, arith}
-use Rattle.mb_rig.proofs.BayLemmas.{bay-drained, bay-starts, comes-wrote, items-many, slice-passes, slice-suits}
+use Rattle.mb_rig.proofs.BayLemmas.{bay-breaks, bay-drained, bay-starts, comes-wrote, items-many, slice-passes, slice-suits}
 use Rattle.mb_rig.proofs.BayLemmas.{told-by, told-low}
 use Rattle.mb_rig.proofs.FrameLemmas.{bay-none, bay-then}
 use Rattle.mb_rig.proofs.Merging.RoomLemmas.{offers-some}
@@ -98,3 +98,12 @@ returns-clause-goes g c = λ s before first links play x st offers.
     bay-drained D.tells D.contents s before first c.args.self.now c.marks.self _ c.marks.desk links x
     (c.marks.invariant.comes s before first links play x st offers) (sym c.in_default.ensures.passed)
     c.in_default.ensures.state refl refl refl
+
+pub returns-in-Err-clause-broke : goal.returns-in-Err-clause-broke
+returns-in-Err-clause-broke g c = λ s before first links play x st offers.
+    let D = g.D.Desk in
+    let told = told-by c.marks.self c.in-Some.passed c.next_passed.new.self c.from.result
+    (sym c.in-Some.ensures.passed) c.in-Some.ensures.state c.from.ensures in
+    bay-breaks D.tells D.contents s before first c.args.self.now c.marks.self _ c.marks.desk c.pass.new.desk links x
+    c.in-Some.passed c.as_mut_slice.result.now (c.marks.invariant.comes s before first links play x st offers) told
+    c.as_mut_slice.ensures.value (λ f putss low outs. c.in-Err.ensures.part f putss low outs)

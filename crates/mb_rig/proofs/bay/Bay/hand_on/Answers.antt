@@ -54,3 +54,12 @@ returns-in-Err-clause-handed g c = λ s before first links play st may.
     let D = g.D.Desk in
     bay-stalls D.tells D.contents s before first c.args.self.now _ c.args.desk.now links play c.args.link
     c.args.moment c.args.mark st may (sym c.in-Err.ensures.held ∙ c.in-Err.ensures.room) c.in-Err.ensures.err (ap (λ n. slice_set c.args.self.now.stalled n true) c.from.ensures) refl refl
+
+pub returns-in-Err-drain-clause-broke : goal.returns-in-Err-drain-clause-broke
+returns-in-Err-drain-clause-broke g c = λ s before first links play st may.
+    let D = g.D.Desk in
+    c.in-Err-drain.ensures.broke s before first _ _ c.args.link
+    (bay-takes D.tells D.contents s before first c.args.self.now _ c.args.desk.now links play c.args.link
+    c.args.moment c.args.mark st may (room-ok c.offer.result _ _ c.in-Ok.is c.offer.ensures.full) c.in-Ok.ensures.ok
+    refl refl refl) (subst (λ (m : Merger). OffersOf m c.args.link) (sym c.in-Ok.ensures.ok)
+    (offers-own c.args.self.now.router c.args.link c.args.moment c.args.mark))

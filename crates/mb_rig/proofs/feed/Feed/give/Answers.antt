@@ -3,7 +3,7 @@ use Rattle.mb_message.specs.declared.mark.Mark.{Mark}
 use Rattle.mb_rig.specs.Bay.{HandedOn}
 use Rattle.mb_rig.specs.Feed.{FeedGoes, feed_owed}
 use Rattle.mb_rig.proofs.FeedLemmas.{same-then}
-use Rattle.mb_rig.proofs.StepLemmas.{owed-waits, step-knows, step-stalls, step-starts, step-stops, step-takes}
+use Rattle.mb_rig.proofs.StepLemmas.{owed-waits, step-breaks, step-knows, step-stalls, step-starts, step-stops, step-takes}
 use Rattle.mb_rig.proofs.StepLemmas.{step-turns, stops-at, touched-none, touched-on, touched-then, touched-took}
 use Rattle.mb_rig.proofs.StepLemmas.{waits-none}
 use Rattle.mb_rig.proofs.feed.Feed.give.Goals as goal
@@ -185,14 +185,10 @@ returns-in-Err-clause-stops g c = λ s before first links play under.
       step-stops D.tells D.contents s before first x moment c.marks.self.link.supply.handle c.args.bay.now.router
           c.marks.self c.next_mark.new.self c.marks.bay c.marks.desk c.next_mark.new.desk links on
           (c.next_mark.ensures.front x present given on.under.feed) c.next_mark.ensures.took,
-      (
-        λ t. stops-at (D.read_faults c.marks.desk) _ (D.read_faults c.next_mark.new.desk)
-            c.marks.self.link.supply.limit _
-            ((D.contents c.next_mark.new.desk).taken c.marks.self.link.supply.handle) _ c.in-Err.stop i.reads
-            i.same.limit (ap (λ (h : ℕ). (D.contents c.next_mark.new.desk).taken h) i.same.handle)
-            (c.in-Err.ensures.stops x present given on.under.feed t),
-        c.next_mark.ensures.write_faults ∙ i.writes,
-      ),
+      λ t. stops-at c.marks.self.link.supply.limit _
+          ((D.contents c.next_mark.new.desk).taken c.marks.self.link.supply.handle) _ c.in-Err.stop
+          i.same.limit (ap (λ (h : ℕ). (D.contents c.next_mark.new.desk).taken h) i.same.handle)
+          (c.in-Err.ensures.stops x present given on.under.feed t),
     )
 
 pub returns-in-Err-clause-touched : goal.returns-in-Err-clause-touched
@@ -201,3 +197,21 @@ returns-in-Err-clause-touched g c = λ s before first links play under.
     touched-then D.tells D.contents _ _ _ _ _ c.marks.desk _ (c.marks.invariant.touched s before first links play under)
     (touched-took D.tells D.contents c.marks.self.link.supply.handle _ _ _ _ _ c.marks.invariant.same.handle
     c.next_mark.ensures.took)
+
+pub returns-in-Err-hand_on-clause-stops : goal.returns-in-Err-hand_on-clause-stops
+returns-in-Err-hand_on-clause-stops g c = λ s before first links play under.
+    let D = g.D.Desk in
+    let x = c.args.turn.link in
+    let moment = c.args.turn.moment in
+    let i = c.marks.invariant in
+    let many = length c.marks.bay.outs.items in
+    let on = i.goes s before first links play under in
+    let known = step-knows D.tells D.contents s before first x moment c.args.bay.now.router c.marks.self
+    c.next_mark.new.self c.marks.bay c.marks.desk c.next_mark.new.desk links c.in-Ok.next c.in-Some.mark on c.in-Some.is
+    c.in-Ok.ensures.goes c.next_mark.ensures.took in (
+      step-breaks D.tells D.contents s before first many x moment c.args.bay.now.router c.marks.self
+          c.next_mark.new.self c.marks.bay c.marks.desk c.next_mark.new.desk c.hand_on.new.desk links c.in-Some.mark on
+          known.gave (c.hand_on.ensures.wrote s before first on.links_now on.play known.stands known.may)
+          (c.in-Err-hand_on.ensures.broke s before first on.links_now on.play known.stands known.may),
+      tt,
+    )

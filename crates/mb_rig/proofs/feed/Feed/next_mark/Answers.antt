@@ -18,7 +18,8 @@ returns-in-Some-clause-goes g c = λ x moment present given st here.
 pub returns-in-Some-clause-front : goal.returns-in-Some-clause-front
 returns-in-Some-clause-front g c = λ x present given st.
     feed-front g.D.Desk.tells g.D.Desk.contents x c.args.self.now _ c.args.desk.now c.args.desk.now present given
-    (record { handle = refl; limit = refl; spec = refl; track = refl }) (λ t. took-none _ _ _ refl) st
+    (record { handle = refl; limit = refl; spec = refl; track = refl }) (λ t. took-none _ _ _ refl)
+    st.stands.counted st
 
 pub returns-in-Some-clause-took : goal.returns-in-Some-clause-took
 returns-in-Some-clause-took g c = λ t. took-none _ _ _ refl
@@ -44,7 +45,7 @@ returns-in-Mark-clause-front g c = λ x present given st.
       limit = c.next.ensures.limit;
       spec = c.next.ensures.spec;
       track = c.next.ensures.track;
-    }) c.next.ensures.took st
+    }) c.next.ensures.took (c.next.ensures.counted st.told st.stands) st
 
 pub returns-in-Record-clause-goes : goal.returns-in-Record-clause-goes
 returns-in-Record-clause-goes g c = λ x moment present given st here.
@@ -67,7 +68,7 @@ returns-in-Record-clause-front g c = λ x present given st.
       limit = c.next.ensures.limit;
       spec = c.next.ensures.spec;
       track = c.next.ensures.track;
-    }) c.next.ensures.took st
+    }) c.next.ensures.took (c.next.ensures.counted st.told st.stands) st
 
 pub returns-in-Ok-None-clause-goes : goal.returns-in-Ok-None-clause-goes
 returns-in-Ok-None-clause-goes g c = λ x moment present given st here.
@@ -87,7 +88,7 @@ returns-in-Ok-None-clause-front g c = λ x present given st.
       limit = c.next.ensures.limit;
       spec = c.next.ensures.spec;
       track = c.next.ensures.track;
-    }) c.next.ensures.took st
+    }) c.next.ensures.took (c.next.ensures.counted st.told st.stands) st
 
 pub returns-in-Err-clause-stops : goal.returns-in-Err-clause-stops
 returns-in-Err-clause-stops g c = λ x present given st t. c.in-Err.ensures.stops st.told st.stands t
@@ -100,4 +101,4 @@ returns-in-Err-clause-front g c = λ x present given st.
       limit = c.next.ensures.limit;
       spec = c.next.ensures.spec;
       track = c.next.ensures.track;
-    }) c.next.ensures.took st
+    }) c.next.ensures.took (c.next.ensures.counted st.told st.stands) st

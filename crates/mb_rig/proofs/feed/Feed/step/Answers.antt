@@ -1,9 +1,9 @@
 use Rattle.std.proofs.Common.{ℕ, sym, ◌∙◌, ap, subst, length}
 use Rattle.mb_merge.specs.Links.{Merger}
 use Rattle.mb_rig.specs.Running.{RunTouched}
-use Rattle.mb_rig.specs.Step.{IfLink, StepStops, StepUnder}
+use Rattle.mb_rig.specs.Step.{ByStop, StepBroke, StepStops, StepUnder}
 use Rattle.mb_rig.specs.declared.bay.Bay.{Bay}
-use Rattle.mb_rig.proofs.StepLemmas.{step-begun, step-ended, touched-then, touched-wrote}
+use Rattle.mb_rig.proofs.StepLemmas.{end-breaks, step-begun, step-ended, touched-then, touched-wrote}
 use Rattle.mb_rig.proofs.feed.Feed.step.Goals as goal
 
 pub give-requires : goal.give-requires
@@ -87,8 +87,9 @@ returns-in-Err-clause-stops g c = λ s before first links play may.
     (step-begun D.tells D.contents s before first c.args.turn.link c.args.turn.moment c.args.self.now c.args.bay.now
     c.begin.new.self.greatest c.args.desk.now links play c.begin.ensures.greatest may) in
     let stops = c.in-Err.ensures.stops s before first links play under in (
-      subst (λ (m : Merger). IfLink c.in-Err.stop (StepStops D.tells D.contents s before first c.args.turn.link m
-          c.give.new.self c.give.new.bay c.give.new.desk links)) (ap (λ (b : Bay). b.router) c.begin.ensures.rest)
+      subst (λ (m : Merger). ByStop c.in-Err.stop (StepStops D.tells D.contents s before first c.args.turn.link m
+          c.give.new.self c.give.new.bay c.give.new.desk links)
+          (StepBroke D.tells D.contents s before c.args.turn.link c.give.new.self c.give.new.desk links)) (ap (λ (b : Bay). b.router) c.begin.ensures.rest)
           stops.0,
       stops.1,
     )
@@ -103,3 +104,18 @@ returns-in-Err-clause-touched g c = λ s before first links play may.
     subst (λ (n : ℕ). RunTouched D.tells D.contents c.args.self.now.link.supply.handle 1 first n c.args.desk.now
     c.give.new.desk) (ap (λ (b : Bay). length b.outs.items) c.begin.ensures.rest)
     (c.give.ensures.touched s before first links play under)
+
+pub returns-in-Err-flush-clause-stops : goal.returns-in-Err-flush-clause-stops
+returns-in-Err-flush-clause-stops g c = λ s before first links play may.
+    let D = g.D.Desk in
+    let under = subst (λ (b : Bay). StepUnder D.tells D.contents s before first c.args.turn.link c.args.turn.moment
+    c.args.self.now b c.args.desk.now links play) (sym c.begin.ensures.rest)
+    (step-begun D.tells D.contents s before first c.args.turn.link c.args.turn.moment c.args.self.now c.args.bay.now
+    c.begin.new.self.greatest c.args.desk.now links play c.begin.ensures.greatest may) in
+    let ends = c.in-Ok.ensures.ends s before first links play under in (
+      end-breaks D.tells D.contents s before first (length c.give.new.bay.outs.items) c.args.turn.link
+          c.begin.new.self.router c.give.new.self c.give.new.bay c.give.new.desk c.flush.new.desk links ends
+          (c.flush.ensures.wrote s before first ends.links_now ends.play ends.stands)
+          (c.flush.ensures.report s before first ends.links_now ends.play ends.stands),
+      tt,
+    )

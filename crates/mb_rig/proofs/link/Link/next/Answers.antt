@@ -8,10 +8,11 @@ use Rattle.mb_outside.specs.Contents.{Contents}
 use Rattle.mb_frames.specs.Tapes.{tape_fault}
 use Rattle.mb_track.specs.TrackReading.{track_moment}
 use Rattle.mb_rig.specs.Heard.{heard_signs, signs_heard}
-use Rattle.mb_rig.specs.Supply.{SupplyValue}
+use Rattle.mb_rig.specs.Supply.{IsCounted, SupplyValue}
 use Rattle.mb_rig.specs.Link.{LinkStands}
 use Rattle.mb_rig.proofs.LinkLemmas.{drew-by, drew-took, link-ends, link-faulty, link-heard, link-quiet, link-read}
 use Rattle.mb_rig.proofs.LinkLemmas.{link-too_long, owed-ended, owed-heard, rests-none, took-none, took-then}
+use Rattle.mb_rig.proofs.LinkLemmas.{counted-read, counted-same}
 use Rattle.mb_rig.proofs.LinkLemmas.{work-heard, work-passed, work-read}
 use Rattle.mb_rig.proofs.HeardLemmas.{moment-by, moment-still, on-some, some-falls}
 use Rattle.mb_rig.proofs.link.Link.next.Goals as goal
@@ -48,13 +49,11 @@ returns-in-Ok-Some-clause-told g c = λ told st.
 
 pub returns-in-Err-clause-stops : goal.returns-in-Err-clause-stops
 returns-in-Err-clause-stops g c = λ told st t.
-    let D = g.D.Desk in (
-      subst (λ (h : ℕ). (bytes : List ℕ) × IsFront bytes ((D.contents c.bytes.desk).taken h)
-          × (tape_fault bytes ≡ Some c.in-Err.fault)) c.bytes.invariant.handle
-          (link-faulty D.tells D.contents c.bytes.self c.hear.new.self c.bytes.desk told c.in-Err.fault
-          c.bytes.invariant.reading c.in-Err.ensures.rests (c.bytes.invariant.told told st) t),
-      c.bytes.invariant.reads,
-    )
+    let D = g.D.Desk in
+    subst (λ (h : ℕ). (bytes : List ℕ) × IsFront bytes ((D.contents c.bytes.desk).taken h)
+    × (tape_fault bytes ≡ Some c.in-Err.fault)) c.bytes.invariant.handle
+    (link-faulty D.tells D.contents c.bytes.self c.hear.new.self c.bytes.desk told c.in-Err.fault
+    c.bytes.invariant.reading c.in-Err.ensures.rests (c.bytes.invariant.told told st) t)
 
 pub bytes-preserved-in-Ok-true : goal.bytes-preserved-in-Ok-true
 bytes-preserved-in-Ok-true g c =
@@ -141,6 +140,14 @@ returns-in-Ok-false-clause-told g c = λ told st.
     i.reading c.end.ensures.over
     (ap (λ (s : SupplyValue). s.handle) c.end.ensures.supply ∙ (c.read_on.ensures.handle ∙ c.hear.ensures.handle))
     (ap (λ (s : SupplyValue). s.limit) c.end.ensures.supply ∙ (c.read_on.ensures.limit ∙ c.hear.ensures.limit))
+    (omega (
+      arith,
+      ap (λ (s : SupplyValue). s.count) c.end.ensures.supply,
+      c.read_on.ensures.count,
+      ap length none,
+      c.hear.ensures.count,
+    ))
+    (omega (arith, c.in-Ok-false.ensures.below, c.hear.ensures.count, c.hear.ensures.limit))
     (ap (λ (s : SupplyValue). s.ahead) c.end.ensures.supply ∙ none)
     (c.is_used.ensures.0 c.if-is_used.true) (c.hear.ensures.used e) c.end.ensures.spec c.end.ensures.track
     (rests-none c.bytes.self c.hear.new.self c.hear.result e c.hear.ensures.rests) c.end.ensures.cut
@@ -164,7 +171,6 @@ returns-in-Err-TooLong-clause-stops g c = λ told st t.
           ∙ (ap (λ (h : ℕ). length ((D.contents c.bytes.desk).taken h)) (sym i.handle) ∙ (p.0 ∙ i.limit)),
       ap (λ (z : Contents). tape_fault (z.taken handle)) same
           ∙ (ap (λ (h : ℕ). tape_fault ((D.contents c.bytes.desk).taken h)) (sym i.handle) ∙ p.1),
-      dry.1 ∙ i.reads,
     )
 
 pub returns-in-Ok-Some-clause-moment : goal.returns-in-Ok-Some-clause-moment
@@ -235,3 +241,42 @@ returns-in-Err-TooLong-clause-rises g c = λ told st.
       moment-by _ (track_moment c.bytes.self.reader) (track_moment c.hear.new.self.reader) c.hear.result None
           (c.in-Ok-None.is ∙ ap Ok c.in-Ok-None.field-0-is) c.bytes.invariant.moment c.hear.ensures.moment,
     )
+
+pub returns-in-Ok-Some-clause-counted : goal.returns-in-Ok-Some-clause-counted
+returns-in-Ok-Some-clause-counted g c = λ told st t.
+    counted-same c.bytes.self.supply c.hear.new.self.supply _ c.hear.ensures.handle c.hear.ensures.limit
+    c.hear.ensures.count ((c.bytes.invariant.told told st).counted t)
+
+pub returns-in-Err-clause-counted : goal.returns-in-Err-clause-counted
+returns-in-Err-clause-counted g c = λ told st t.
+    counted-same c.bytes.self.supply c.hear.new.self.supply _ c.hear.ensures.handle c.hear.ensures.limit
+    c.hear.ensures.count ((c.bytes.invariant.told told st).counted t)
+
+pub returns-in-Ok-false-clause-counted : goal.returns-in-Ok-false-clause-counted
+returns-in-Ok-false-clause-counted g c = λ told st t.
+    let i = c.bytes.invariant in
+    let none : c.read_on.new.self.ahead ≡ [] =
+    c.read_on.ensures.none (c.in-Ok-false.is ∙ ap Ok c.in-Ok-false.field-0-test) in
+    subst (λ (s : SupplyValue). IsCounted s (g.D.Desk.contents c.read_on.new.desk)) (sym c.end.ensures.supply)
+    (counted-read c.hear.new.self.supply c.read_on.new.self _ _ c.read_on.new.self.ahead c.read_on.ensures.handle
+    c.read_on.ensures.count c.read_on.ensures.within (c.in-Ok-false.ensures.drew t)
+    (counted-same c.bytes.self.supply c.hear.new.self.supply _ c.hear.ensures.handle c.hear.ensures.limit
+    c.hear.ensures.count ((i.told told st).counted t)))
+
+pub returns-in-Err-ReadFault-clause-counted : goal.returns-in-Err-ReadFault-clause-counted
+returns-in-Err-ReadFault-clause-counted g c = λ told st t.
+    let err = c.in-Err-ReadFault.ensures.err in
+    subst (λ (z : Contents). IsCounted c.read_on.new.self z) (sym (err.1 t))
+    (counted-same c.bytes.self.supply c.read_on.new.self _ (c.read_on.ensures.handle ∙ c.hear.ensures.handle)
+    (c.read_on.ensures.limit ∙ c.hear.ensures.limit)
+    (omega (arith, c.read_on.ensures.count, ap length err.0, c.hear.ensures.count))
+    ((c.bytes.invariant.told told st).counted t))
+
+pub returns-in-Err-TooLong-clause-counted : goal.returns-in-Err-TooLong-clause-counted
+returns-in-Err-TooLong-clause-counted g c = λ told st t.
+    let err = c.in-Err-TooLong.ensures.err in
+    subst (λ (z : Contents). IsCounted c.read_on.new.self z) (sym (err.1 t))
+    (counted-same c.bytes.self.supply c.read_on.new.self _ (c.read_on.ensures.handle ∙ c.hear.ensures.handle)
+    (c.read_on.ensures.limit ∙ c.hear.ensures.limit)
+    (omega (arith, c.read_on.ensures.count, ap length err.0, c.hear.ensures.count))
+    ((c.bytes.invariant.told told st).counted t))

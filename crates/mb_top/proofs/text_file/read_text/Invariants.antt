@@ -1,6 +1,6 @@
 use Rattle.std.proofs.Common.{◌≡◌, ◌-◌, length, IsTrue}
-use Rattle.mb_top.specs.RulesFile.{TextRead}
-use Rattle.mb_top.proofs.rules_file.read_text.Given as goal
+use Rattle.mb_top.specs.TextFile.{TextRead}
+use Rattle.mb_top.proofs.text_file.read_text.Given as goal
 
 abbrev pub invariant-pieces : goal.invariant-pieces
 invariant-pieces g l =
@@ -13,4 +13,4 @@ invariant-pieces g l =
     }
 
 abbrev pub decreases-pieces : goal.decreases-pieces
-decreases-pieces g l = 4097 - length l.text.items
+decreases-pieces g l = g.row.N - length l.text.items
